@@ -1,7 +1,8 @@
 // What a change makes of a page's bytes.
 ghost use Rattle.std.specs.Prelude.{◌≡◌, length};
 
-use crate::rows::{bytes_of, cut, page_with, see, short, word};
+use crate::kinds::{Kind, try_rows};
+use crate::rows::{bytes_of, cut, page_with, short, word};
 use page_types::{Bytes, Change, Changes, Edit, PAGE_BYTES, PageBytes, apply};
 use std::alloc::{AllocError, Global};
 use std::test::Fail;
@@ -55,24 +56,6 @@ fn one_change(alloc: Global, words: &str) -> Result<Changes, AllocError> {
     Ok(changes)
 }
 
-/// The same, made once more where that is refused.
-fn change_with(alloc: Global, words: &str) -> Result<Changes, AllocError> {
-    match one_change(alloc, words) {
-        Ok(changes) => Ok(changes),
-        Err(_) => one_change(alloc, words),
-    }
-}
-
-/// Whether a list has one change.
-fn has_one(changes: &Changes) -> bool {
-    changes.len() == 1 && changes.get(1).is_none()
-}
-
-/// How many changes a list hands out.
-fn count_of(changes: Changes) -> usize {
-    changes.into_vec().len()
-}
-
 /// Whether the first change of a list is made by record 258.
 fn is_done(bytes: &mut [u8], changes: &Changes) -> bool
     requires { length bytes.old ≡ PAGE_BYTES }
@@ -84,22 +67,19 @@ fn is_done(bytes: &mut [u8], changes: &Changes) -> bool
 }
 
 /// Whether a change makes of one page another, or is refused and leaves it, where no other is given.
-fn is_made(alloc: Global, row: &str) -> Result<bool, AllocError> {
+pub(crate) fn is_made(alloc: Global, row: &str) -> Result<bool, AllocError> {
     let (words, pages) = cut(row);
     let (before, after) = cut(pages);
     let mut bytes = page_with(alloc, before)?;
     let wanted = page_with(alloc, if after == "none" { before } else { after })?;
-    let changes = change_with(alloc, words)?;
+    let changes = one_change(alloc, words)?;
     let done = is_done(&mut bytes, &changes) == (after != "none");
-    let one = has_one(&changes) && count_of(changes) == 1;
-    Ok(bytes == wanted && done && one)
+    let one = changes.len() == 1 && changes.get(1).is_none();
+    Ok(bytes == wanted && done && one && changes.into_vec().len() == 1)
 }
 
 #[test]
 fn changes_are_made_or_refused(rt: HostRuntime) -> Result<(), Fail> {
-    let alloc = rt.alloc();
-    for row in CHANGES.lines() {
-        see(&rt, is_made(alloc, row.trim())?, row);
-    }
+    try_rows(&rt, rt.alloc(), Kind::Change, CHANGES)?;
     Ok(())
 }

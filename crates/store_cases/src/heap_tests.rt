@@ -3,8 +3,9 @@ ghost use Rattle.std.specs.Prelude.{◌≡◌, true, IsSome};
 ghost use Rattle.page_types.specs.Pages.{IsPage};
 ghost use Rattle.doc_heap.specs.HeapPages.{head_on};
 
-use crate::page_tests::{page_in, told_page};
-use crate::rows::{bytes_of, cut, long, number, page_with, see, short, word};
+use crate::kinds::{Kind, try_rows};
+use crate::page_tests::{page_in, said};
+use crate::rows::{bytes_of, cut, long, number, page_with, short, word};
 use doc_heap::{free, head, mark, place};
 use page_types::{Bytes, Head, Page};
 use std::alloc::{AllocError, Global};
@@ -79,12 +80,12 @@ fn head_of(alloc: Global, words: &str) -> Result<Head, AllocError> {
 
 /// Whether two pages say the same.
 fn say_same(alloc: Global, page: &Page, other: &Page) -> Result<bool, AllocError> {
-    let told = told_page(alloc, page)?;
-    Ok(told == told_page(alloc, other)?)
+    let told = said(alloc, page)?;
+    Ok(told == said(alloc, other)?)
 }
 
 /// Whether a page has these bytes.
-fn has_bytes(alloc: Global, page: &Page, words: &str) -> Result<bool, AllocError> {
+pub(crate) fn has_bytes(alloc: Global, page: &Page, words: &str) -> Result<bool, AllocError> {
     let bytes = page_with(alloc, words)?;
     match page_in(alloc, &bytes) {
         Ok(wanted) => say_same(alloc, page, &wanted),
@@ -156,7 +157,7 @@ fn gives(alloc: Global, page: Page, words: &str, tells: &str) -> Result<bool, Al
 }
 
 /// Whether a row holds.
-fn holds(alloc: Global, row: &str) -> Result<bool, AllocError> {
+pub(crate) fn holds(alloc: Global, row: &str) -> Result<bool, AllocError> {
     let (words, rest) = cut(row);
     let (before, tells) = cut(rest);
     let bytes = page_with(alloc, before)?;
@@ -168,9 +169,6 @@ fn holds(alloc: Global, row: &str) -> Result<bool, AllocError> {
 
 #[test]
 fn heads_are_placed_marked_freed_and_read(rt: HostRuntime) -> Result<(), Fail> {
-    let alloc = rt.alloc();
-    for row in HEADS.lines() {
-        see(&rt, holds(alloc, row.trim())?, row);
-    }
+    try_rows(&rt, rt.alloc(), Kind::Head, HEADS)?;
     Ok(())
 }

@@ -1,5 +1,5 @@
 //! Cases of the device in memory, of the log, of pages in memory over their journal, of pages, records and item lists,
-//! of the state of a log, and of heads, new pages and snapshots, by their public calls.
+//! of the state of a log, of heads, new pages and snapshots, and of pages of posting trees, by their public calls.
 //!
 //! Cases are rows of text that one reader runs, for each kind of row, since a row costs nothing in proof and a
 //! function much. Tests are in a crate of their own, since a crate with tests is proved twice.
@@ -15,6 +15,8 @@ mod frames_tests;
 mod heap_tests;
 #[cfg(test)]
 mod item_tests;
+#[cfg(test)]
+mod kinds;
 #[cfg(test)]
 mod list_tests;
 #[cfg(test)]
@@ -37,3 +39,5 @@ mod silent;
 mod state_rows;
 #[cfg(test)]
 mod state_tests;
+#[cfg(test)]
+mod tree_tests;

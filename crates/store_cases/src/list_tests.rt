@@ -1,41 +1,60 @@
-// The lists of pages and records, changed in steps, each made once more where it is refused. So each row holds with
-// ample memory, and with any one allocation failing: a refused step left the list as it was.
-use crate::rows::{cut, long, number, see, word};
+// The lists of pages, changed in steps.
+use crate::kinds::{Kind, try_rows};
+use crate::rows::{cut, long, number, word};
+use crate::state_tests::changes_of;
 use page_types::{
-    Bytes, Change, Changes, Edit, Entries, EntryChildRef, EntryChildren, EntryRef, HeadFields,
-    HeadRef, Pieces, PostChild, PostChildren, PostingsRef, Rows, Slots,
+    Entries, EntryChildRef, EntryChildren, EntryRef, HeadFields, HeadRef, Pieces, PostChild,
+    PostChildren, PostingsRef, Rows, Slots,
 };
 use std::alloc::{AllocError, Global};
-use std::fmt::{self, Write};
+use std::fmt::Debug;
 use std::test::Fail;
 
-/// A list, the steps that change it, and what a copy of it then says of each place.
+/// A list, its steps, and what a copy of it then says; or pages, and how many changes of them are listed.
 const LISTS: &str = "\
-    pieces | push ab; insert 1 c; append de de; set 0 fgh | [102, 103, 104]; [99]; [100, 101]; [100, 101]
-    pieces | push x; push yz; append x yz; splice 1 3 x yz; set 0 abc; remove 2; truncate 3 \
-        | [97, 98, 99]; [120]; [121, 122]
-    slots | push 1 a; push -; insert 0 2 bc; set 0 3 def | 3 [100, 101, 102]; 1 [97]; -
-    slots | push -; push 1 abc; insert 1 2 de; set 0 3 f; set 2 4 ghij; insert 3 -; change 1 5; change 3 6; free 0 \
-        | -; 5 [100, 101]; 4 [103, 104, 105, 106]; -
+    pieces | push ab; insert 1 c; append de de; set 0 fgh | Pieces { bytes: [102, 103, 104, 99, 100, 101, 100, 101], \
+        ends: [3, 4, 6, 8] }
+    pieces | push x; push yz; append x yz; splice 1 3 x yz; set 0 abc; remove 2; truncate 3 | Pieces { bytes: [97, \
+        98, 99, 120, 121, 122], ends: [3, 4, 6] }
+    slots | push 1 a; push -; insert 0 2 bc; set 0 3 def | Slots { fields: [Some(HeadFields { serial: 3, \
+        inserted_by: 2, deleted_by: 0, overflow: 0, private: 0, bytes: 3 }), Some(HeadFields { serial: 1, \
+        inserted_by: 2, deleted_by: 0, overflow: 0, private: 0, bytes: 3 }), None], vectors: Pieces { bytes: [100, \
+        101, 102, 97], ends: [3, 4, 4] } }
+    slots | push -; push 1 abc; insert 1 2 de; set 0 3 f; set 2 4 ghij; insert 3 -; change 1 5; change 3 6; free 0 | \
+        Slots { fields: [None, Some(HeadFields { serial: 5, inserted_by: 2, deleted_by: 0, overflow: 0, private: 0, \
+        bytes: 3 }), Some(HeadFields { serial: 4, inserted_by: 2, deleted_by: 0, overflow: 0, private: 0, bytes: 3 \
+        }), None], vectors: Pieces { bytes: [100, 101, 103, 104, 105, 106], ends: [0, 2, 6, 6] } }
     slots | push -; push 1 abc; insert 1 2 de; set 0 3 f; set 2 4 ghij; insert 3 -; change 1 5; change 3 6; free 0; \
-        remove 1 | -; 4 [103, 104, 105, 106]; -
-    rows | push 4096 k k; push 4097; insert 0 4098 k k; set 0 4099 mn mn \
-        | 4099 [109, 110] [109, 110]; 4096 [107] [107]; 4097
-    rows | push 4097 \0a; push 4096 \0 \0a; insert 1 4098 \0 \0a; insert 3 4099 \0; set 0 4095 \0 \
-        | 4095 [0]; 4098 [0] [0, 97]; 4096 [0] [0, 97]; 4099 [0]
-    rows | push 4097 \0a; push 4096 \0 \0a; insert 1 4098 \0 \0a; insert 3 4099 \0; set 0 4095 \0; remove 1 \
-        | 4095 [0]; 4096 [0] [0, 97]; 4099 [0]
-    entries | push a \x01; insert 0 b \x02\x03; set 0 \x04\x05\x06 | [98] Inline([4, 5, 6]); [97] Inline([1])
-    entries | push \0a \x01; insert 0  \x01; insert 2 b \x01; set 0 root 11; set 2 \x02\x03 \
-        | [] Root(11); [0, 97] Inline([1]); [98] Inline([2, 3])
-    entries | push \0a \x01; insert 0  \x01; insert 2 b \x01; set 0 root 11; set 2 \x02\x03; remove 1 \
-        | [] Root(11); [98] Inline([2, 3])
-    children | push 20; push 20 a; insert 0 20 b; set 0 21 cd | 21 [99, 100]; 20 []; 20 [97]
-    children | push 20; insert 0 21 ab; set 1 22 c | 21 [97, 98]; 22 [99]
-    children | push 20; insert 0 21 ab; set 1 22 c; remove 0 | 22 [99]
-    leaves | push 24 1; push 25 2; insert 0 26 3 | 26 3; 24 1; 25 2
-    leaves | push 25 7; insert 1 25 7; set 1 24 4294967295 | 25 7; 24 4294967295
-    leaves | push 25 7; insert 1 25 7; set 1 24 4294967295; remove 0 | 24 4294967295
+        remove 1 | Slots { fields: [None, Some(HeadFields { serial: 4, inserted_by: 2, deleted_by: 0, overflow: 0, \
+        private: 0, bytes: 3 }), None], vectors: Pieces { bytes: [103, 104, 105, 106], ends: [0, 4, 4] } }
+    rows | push 4096 k k; push 4097; insert 0 4098 k k; set 0 4099 mn mn | Rows { items: [4099, 4096, 4097], ends: \
+        [2, 4, 4], keys: Pieces { bytes: [109, 110, 109, 110, 107, 107], ends: [2, 4, 5, 6] } }
+    rows | push 4097 \0a; push 4096 \0 \0a; insert 1 4098 \0 \0a; insert 3 4099 \0; set 0 4095 \0 | Rows { items: \
+        [4095, 4098, 4096, 4099], ends: [1, 3, 5, 6], keys: Pieces { bytes: [0, 0, 0, 97, 0, 0, 97, 0], ends: [1, 2, \
+        4, 5, 7, 8] } }
+    rows | push 4097 \0a; push 4096 \0 \0a; insert 1 4098 \0 \0a; insert 3 4099 \0; set 0 4095 \0; remove 1 | Rows { \
+        items: [4095, 4096, 4099], ends: [1, 3, 4], keys: Pieces { bytes: [0, 0, 0, 97, 0], ends: [1, 2, 4, 5] } }
+    entries | push a \x01; insert 0 b \x02\x03; set 0 \x04\x05\x06 | Entries { keys: Pieces { bytes: [98, 97], ends: \
+        [1, 2] }, roots: [None, None], lists: Pieces { bytes: [4, 5, 6, 1], ends: [3, 4] } }
+    entries | push \0a \x01; insert 0  \x01; insert 2 b \x01; set 0 root 11; set 2 \x02\x03 | Entries { keys: Pieces \
+        { bytes: [0, 97, 98], ends: [0, 2, 3] }, roots: [Some(11), None, None], lists: Pieces { bytes: [1, 2, 3], \
+        ends: [0, 1, 3] } }
+    entries | push \0a \x01; insert 0  \x01; insert 2 b \x01; set 0 root 11; set 2 \x02\x03; remove 1 | Entries { \
+        keys: Pieces { bytes: [98], ends: [0, 1] }, roots: [Some(11), None], lists: Pieces { bytes: [2, 3], ends: \
+        [0, 2] } }
+    children | push 20; push 20 a; insert 0 20 b; set 0 21 cd | EntryChildren { pages: [21, 20, 20], bounds: Pieces \
+        { bytes: [99, 100, 97], ends: [2, 2, 3] } }
+    children | push 20; insert 0 21 ab; set 1 22 c | EntryChildren { pages: [21, 22], bounds: Pieces { bytes: [97, \
+        98, 99], ends: [2, 3] } }
+    children | push 20; insert 0 21 ab; set 1 22 c; remove 0 | EntryChildren { pages: [22], bounds: Pieces { bytes: \
+        [99], ends: [1] } }
+    leaves | push 24 1; push 25 2; insert 0 26 3 | Seq { inner: [PostChild { page: 26, bound: 3 }, PostChild { page: \
+        24, bound: 1 }, PostChild { page: 25, bound: 2 }] }
+    leaves | push 25 7; insert 1 25 7; set 1 24 4294967295 | Seq { inner: [PostChild { page: 25, bound: 7 }, \
+        PostChild { page: 24, bound: 4294967295 }] }
+    leaves | push 25 7; insert 1 25 7; set 1 24 4294967295; remove 0 | Seq { inner: [PostChild { page: 24, bound: \
+        4294967295 }] }
+    changes | 7 7 7 7 | 4
 ";
 
 /// What is done with a list.
@@ -76,13 +95,10 @@ fn verb_of(word: &str) -> Verb {
     }
 }
 
-/// A list of a page or a record, changed in steps. A step that it has not, or in no place of it, changes nothing.
+/// A list of a page, changed in steps. A step that it has not, or in no place of it, changes nothing.
 trait List {
     /// Makes a step in a place, with the words of what is put there.
     fn step(&mut self, alloc: Global, verb: Verb, k: usize, words: &str) -> Result<(), AllocError>;
-
-    /// What is in a place, or none where the list has no such place.
-    fn told(&self, alloc: Global, k: usize) -> Result<Option<String>, fmt::Error>;
 }
 
 /// The strings of words.
@@ -107,13 +123,6 @@ impl List for Pieces {
             _ => {}
         }
         Ok(())
-    }
-
-    fn told(&self, alloc: Global, k: usize) -> Result<Option<String>, fmt::Error> {
-        match self.get(k) {
-            Some(piece) => Ok(Some(format!(in alloc; "{piece:?}")?)),
-            None => Ok(None),
-        }
     }
 }
 
@@ -166,16 +175,6 @@ impl List for Slots {
         }
         Ok(())
     }
-
-    fn told(&self, alloc: Global, k: usize) -> Result<Option<String>, fmt::Error> {
-        if self.len() <= k {
-            return Ok(None);
-        }
-        match self.get(k) {
-            Some(head) => Ok(Some(format!(in alloc; "{} {:?}", head.fields.serial, head.vector)?)),
-            None => Ok(Some(String::from_str(alloc, "-")?)),
-        }
-    }
 }
 
 /// The item of the first word, and the keys of the others.
@@ -196,17 +195,6 @@ impl List for Rows {
             _ => {}
         }
         Ok(())
-    }
-
-    fn told(&self, alloc: Global, k: usize) -> Result<Option<String>, fmt::Error> {
-        let Some(row) = self.get(k) else {
-            return Ok(None);
-        };
-        let mut text = format!(in alloc; "{}", row.item)?;
-        for i in 0..row.keys.len() {
-            write!(text, " {:?}", row.keys.at(i))?;
-        }
-        Ok(Some(text))
     }
 }
 
@@ -238,13 +226,6 @@ impl List for Entries {
         }
         Ok(())
     }
-
-    fn told(&self, alloc: Global, k: usize) -> Result<Option<String>, fmt::Error> {
-        match self.get(k) {
-            Some(entry) => Ok(Some(format!(in alloc; "{:?} {:?}", entry.key, entry.postings)?)),
-            None => Ok(None),
-        }
-    }
 }
 
 /// The child of the first word's page and the second's bound.
@@ -266,13 +247,6 @@ impl List for EntryChildren {
             _ => {}
         }
         Ok(())
-    }
-
-    fn told(&self, alloc: Global, k: usize) -> Result<Option<String>, fmt::Error> {
-        match self.get(k) {
-            Some(child) => Ok(Some(format!(in alloc; "{} {:?}", child.page, child.bound)?)),
-            None => Ok(None),
-        }
     }
 }
 
@@ -296,13 +270,6 @@ impl List for PostChildren {
         }
         Ok(())
     }
-
-    fn told(&self, alloc: Global, k: usize) -> Result<Option<String>, fmt::Error> {
-        match self.get(k) {
-            Some(child) => Ok(Some(format!(in alloc; "{} {}", child.page, child.bound)?)),
-            None => Ok(None),
-        }
-    }
 }
 
 /// The verb of a step, its place, and the words after it. A push or an append has no place.
@@ -316,130 +283,49 @@ fn parts(step: &str) -> (Verb, usize, &str) {
     (verb, number(place) as usize, rest)
 }
 
-/// Makes a step, once more where it is refused.
-fn make<T: List>(alloc: Global, list: &mut T, step: &str) -> Result<(), AllocError> {
-    let (verb, k, words) = parts(step);
-    match list.step(alloc, verb, k, words) {
-        Ok(()) => Ok(()),
-        Err(_) => list.step(alloc, verb, k, words),
-    }
-}
-
-/// A copy, made once more where it is refused.
-fn copy_of<T: Clone>(value: &T) -> Result<T, AllocError> {
-    match value.clone() {
-        Ok(copy) => Ok(copy),
-        Err(_) => value.clone(),
-    }
-}
-
-/// What is in a place, said once more where that is refused.
-fn told<T: List>(alloc: Global, list: &T, k: usize) -> Result<Option<String>, fmt::Error> {
-    match list.told(alloc, k) {
-        Ok(text) => Ok(text),
-        Err(_) => list.told(alloc, k),
-    }
-}
-
-/// Whether a list says this of a place.
-fn tells<T: List>(alloc: Global, list: &T, k: usize, tell: &str) -> Result<bool, fmt::Error> {
-    match told(alloc, list, k)? {
-        Some(text) => Ok(text.as_str() == tell),
-        None => Ok(false),
-    }
-}
-
-/// Whether a list says this of its places, and has no more.
-fn tells_all<T: List>(alloc: Global, list: &T, all: &str) -> Result<bool, fmt::Error> {
-    let mut k = 0usize;
-    for tell in all.split(';') {
-        if !tells(alloc, list, k, tell.trim())? {
-            return Ok(false);
-        }
-        k = k.saturating_add(1);
-    }
-    Ok(told(alloc, list, k)?.is_none())
-}
-
 /// Makes the steps of a list.
 fn make_all<T: List>(alloc: Global, list: &mut T, steps: &str) -> Result<(), AllocError> {
     for step in steps.split(';') {
-        make(alloc, list, step.trim())?;
+        let (verb, k, words) = parts(step.trim());
+        list.step(alloc, verb, k, words)?;
     }
     Ok(())
 }
 
-/// Whether a copy of a list says this.
-fn copy_tells<T: List + Clone + Drop>(
-    alloc: Global,
-    list: &T,
-    all: &str,
-) -> Result<bool, fmt::Error> {
-    let copy = copy_of(list)?;
-    tells_all(alloc, &copy, all)
-}
-
 /// Whether steps make a list of which a copy says what its row says.
-fn comes_to<T: List + Clone + Drop>(
+fn comes_to<T: List + Clone + Debug + Drop>(
     alloc: Global,
     mut list: T,
     row: &str,
-) -> Result<bool, fmt::Error> {
+) -> Result<bool, AllocError> {
     let (steps, tells) = cut(row);
     make_all(alloc, &mut list, steps)?;
-    copy_tells(alloc, &list, tells)
+    let copy = list.clone()?;
+    Ok(format!(in alloc; "{copy:?}")?.as_str() == tells)
 }
 
-/// No entries, with room for one of one byte.
-fn no_entries(alloc: Global) -> Result<Entries, AllocError> {
-    match Entries::with_room(alloc, 1, 1) {
-        Ok(entries) => Ok(entries),
-        Err(_) => Entries::with_room(alloc, 1, 1),
-    }
+/// Whether so many changes of pages are listed as their row says.
+fn are_listed(alloc: Global, row: &str) -> Result<bool, AllocError> {
+    let (pages, count) = cut(row);
+    Ok(changes_of(alloc, pages, 0)?.len() == number(count) as usize)
 }
 
 /// Whether a row holds of a list of its kind.
-fn holds(alloc: Global, row: &str) -> Result<bool, fmt::Error> {
+pub(crate) fn holds(alloc: Global, row: &str) -> Result<bool, AllocError> {
     let (kind, rest) = cut(row);
     match kind {
         "pieces" => comes_to(alloc, Pieces::new(alloc), rest),
         "slots" => comes_to(alloc, Slots::new(alloc), rest),
         "rows" => comes_to(alloc, Rows::new(alloc), rest),
-        "entries" => comes_to(alloc, no_entries(alloc)?, rest),
+        "entries" => comes_to(alloc, Entries::with_room(alloc, 1, 1)?, rest),
         "children" => comes_to(alloc, EntryChildren::new(alloc), rest),
+        "changes" => are_listed(alloc, rest),
         _ => comes_to(alloc, PostChildren::new(alloc), rest),
     }
 }
 
-/// A change of this page that puts one byte there.
-fn change(alloc: Global, page: u32) -> Result<Change, AllocError> {
-    let bytes = Bytes::from_slice(alloc, b"x")?;
-    let edit = Edit::Delta {
-        front: [0; 8],
-        start: 0,
-        cut: 0,
-        bytes,
-    };
-    Ok(Change { page, edit })
-}
-
-/// A change more.
-fn put_change(alloc: Global, changes: &mut Changes) -> Result<(), AllocError> {
-    changes.push(change(alloc, 7)?)
-}
-
 #[test]
 fn lists_hold_what_their_steps_make(rt: HostRuntime) -> Result<(), Fail> {
-    let alloc = rt.alloc();
-    for row in LISTS.lines() {
-        see(&rt, holds(alloc, row.trim())?, row);
-    }
-    let mut changes = Changes::new(alloc);
-    for _ in 0..4 {
-        if put_change(alloc, &mut changes).is_err() {
-            put_change(alloc, &mut changes)?;
-        }
-    }
-    assert_eq!(rt; changes.len(), 4);
+    try_rows(&rt, rt.alloc(), Kind::List, LISTS)?;
     Ok(())
 }

@@ -2,35 +2,25 @@
 ghost use Rattle.std.specs.Prelude.{IfOk};
 ghost use Rattle.page_types.specs.Pages.{IsPage};
 
+use crate::kinds::{Kind, try_rows};
 use crate::page_rows::{EDITS, PAGES};
-use crate::rows::{bytes_of, cut, number, page_with, see, word};
+use crate::rows::{bytes_of, cut, number, page_with, word};
 use page_code::{PageError, decode_page, encode_page};
 use page_types::Page;
 use std::alloc::{AllocError, Global};
 use std::test::Fail;
 
-/// The page whose encoding the bytes are, read once more where that is refused.
+/// The page whose encoding the bytes are.
 pub(crate) fn page_in(alloc: Global, bytes: &[u8]) -> Result<Page, PageError>
     ensures { IfOk result (λ p. IsPage p) }
 {
-    match decode_page(alloc, bytes) {
-        Ok(page) => Ok(page),
-        Err(_) => decode_page(alloc, bytes),
-    }
+    decode_page(alloc, bytes)
 }
 
 /// What a copy of the page says.
-fn said(alloc: Global, page: &Page) -> Result<String, AllocError> {
+pub(crate) fn said(alloc: Global, page: &Page) -> Result<String, AllocError> {
     let copy = page.clone()?;
     format!(in alloc; "{copy:?}")
-}
-
-/// The same, once more where that is refused.
-pub(crate) fn told_page(alloc: Global, page: &Page) -> Result<String, AllocError> {
-    match said(alloc, page) {
-        Ok(text) => Ok(text),
-        Err(_) => said(alloc, page),
-    }
 }
 
 /// Where these bytes are refused, if they are.
@@ -41,25 +31,17 @@ fn refused(alloc: Global, bytes: &[u8]) -> Option<usize> {
     }
 }
 
-/// The encoding of a page, written over other bytes.
-fn written(alloc: Global, page: &Page) -> Result<Vec<u8>, AllocError>
+/// Whether a page is what its row says, and is written so over other bytes.
+fn is_so(alloc: Global, page: &Page, tells: &str, bytes: &[u8]) -> Result<bool, AllocError>
     requires { IsPage page.now }
 {
     let mut out = page_with(alloc, "ff*8192")?;
     encode_page(page, &mut out);
-    Ok(out)
-}
-
-/// Whether a page is what its row says, and is written so.
-fn is_so(alloc: Global, page: &Page, tells: &str, bytes: &[u8]) -> Result<bool, AllocError>
-    requires { IsPage page.now }
-{
-    let told = told_page(alloc, page)?;
-    Ok(told.as_str() == tells && written(alloc, page)?.as_slice() == bytes)
+    Ok(out.as_slice() == bytes && said(alloc, page)?.as_str() == tells)
 }
 
 /// Whether a page is read as what its row says, and written again.
-fn is_page(alloc: Global, row: &str) -> Result<bool, AllocError> {
+pub(crate) fn is_page(alloc: Global, row: &str) -> Result<bool, AllocError> {
     let (_, rest) = cut(row);
     let (tells, words) = cut(rest);
     let bytes = page_with(alloc, words)?;
@@ -70,7 +52,7 @@ fn is_page(alloc: Global, row: &str) -> Result<bool, AllocError> {
 }
 
 /// Whether a page is refused with a byte more, a byte less, and cut to 23 bytes.
-fn is_refused_else(alloc: Global, row: &str) -> Result<bool, AllocError> {
+pub(crate) fn is_refused_else(alloc: Global, row: &str) -> Result<bool, AllocError> {
     let mut bytes = page_with(alloc, cut(cut(row).1).1)?;
     bytes.push(0)?;
     let longer = refused(alloc, &bytes);
@@ -103,7 +85,7 @@ fn put_bytes(page: &mut [u8], at: usize, bytes: &[u8]) {
 }
 
 /// Whether a page with other bytes from a place on is refused where its row says.
-fn is_refused_there(alloc: Global, row: &str) -> Result<bool, AllocError> {
+pub(crate) fn is_refused_there(alloc: Global, row: &str) -> Result<bool, AllocError> {
     let (name, rest) = word(row);
     let (at, rest) = word(rest);
     let (digits, rest) = word(rest);
@@ -113,23 +95,12 @@ fn is_refused_there(alloc: Global, row: &str) -> Result<bool, AllocError> {
     Ok(refused(alloc, &page) == word(rest).0.parse().ok())
 }
 
+/// Pages are read and written, and bytes that are no pages are refused at their places.
 #[test]
-fn pages_are_read_and_written(rt: HostRuntime) -> Result<(), Fail> {
+fn pages(rt: HostRuntime) -> Result<(), Fail> {
     let alloc = rt.alloc();
-    for row in PAGES.lines() {
-        see(&rt, is_page(alloc, row.trim())?, row);
-    }
-    Ok(())
-}
-
-#[test]
-fn bytes_that_are_no_pages_are_refused_at_their_places(rt: HostRuntime) -> Result<(), Fail> {
-    let alloc = rt.alloc();
-    for row in PAGES.lines() {
-        see(&rt, is_refused_else(alloc, row.trim())?, row);
-    }
-    for row in EDITS.lines() {
-        see(&rt, is_refused_there(alloc, row.trim())?, row);
-    }
+    try_rows(&rt, alloc, Kind::Page, PAGES)?;
+    try_rows(&rt, alloc, Kind::PageAlone, PAGES)?;
+    try_rows(&rt, alloc, Kind::PageEdit, EDITS)?;
     Ok(())
 }

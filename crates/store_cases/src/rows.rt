@@ -62,7 +62,7 @@ fn put_word(out: &mut Vec<u8>, word: &str) -> Result<(), AllocError> {
 }
 
 /// The bytes that words stand for.
-fn read_bytes(alloc: Global, words: &str) -> Result<Vec<u8>, AllocError> {
+pub(crate) fn bytes_of(alloc: Global, words: &str) -> Result<Vec<u8>, AllocError> {
     let mut out = Vec::new(alloc);
     for word in words.split(' ') {
         put_word(&mut out, word)?;
@@ -70,21 +70,11 @@ fn read_bytes(alloc: Global, words: &str) -> Result<Vec<u8>, AllocError> {
     Ok(out)
 }
 
-/// The bytes that words stand for, read once more where that is refused.
-pub(crate) fn bytes_of(alloc: Global, words: &str) -> Result<Vec<u8>, AllocError> {
-    match read_bytes(alloc, words) {
-        Ok(bytes) => Ok(bytes),
-        Err(_) => read_bytes(alloc, words),
-    }
-}
-
 /// The page with these bytes first, which zeros follow.
 pub(crate) fn page_with(alloc: Global, words: &str) -> Result<Vec<u8>, AllocError>
     ensures { IfOk result (λ v. length v.items ≡ PAGE_BYTES) }
 {
     let mut bytes = bytes_of(alloc, words)?;
-    if bytes.resize(PAGE_BYTES, 0).is_err() {
-        bytes.resize(PAGE_BYTES, 0)?;
-    }
+    bytes.resize(PAGE_BYTES, 0)?;
     Ok(bytes)
 }

@@ -12,7 +12,6 @@ use page_types::{
     Slots,
 };
 use std::alloc::{AllocError, Global};
-use std::fmt::{self, Write};
 use std::process::Abort;
 use std::test::Fail;
 
@@ -36,7 +35,7 @@ fn kind_of(words: &str) -> Kind {
 }
 
 /// The changes of these pages, which get this first byte.
-fn changes_of(alloc: Global, pages: &str, front: u8) -> Result<Changes, AllocError> {
+pub(crate) fn changes_of(alloc: Global, pages: &str, front: u8) -> Result<Changes, AllocError> {
     let mut changes = Changes::new(alloc);
     for page in pages.split_whitespace() {
         let edit = Edit::Delta {
@@ -69,7 +68,7 @@ fn record(
 }
 
 /// Appends names.
-fn put_names(text: &mut String, sign: &str, names: &[Name]) -> Result<(), fmt::Error> {
+fn put_names(text: &mut String, sign: &str, names: &[Name]) -> Result<(), AllocError> {
     write!(text, " {sign}")?;
     for name in names {
         let Name { page, slot, serial } = *name;
@@ -79,7 +78,7 @@ fn put_names(text: &mut String, sign: &str, names: &[Name]) -> Result<(), fmt::E
 }
 
 /// Appends the names of each commit.
-fn put_commits(text: &mut String, state: &State) -> Result<(), fmt::Error> {
+fn put_commits(text: &mut String, state: &State) -> Result<(), AllocError> {
     for commit in 1..=state.commits() {
         put_names(text, "-", state.deleted(commit))?;
         put_names(text, "+", state.inserted(commit))?;
@@ -89,7 +88,7 @@ fn put_commits(text: &mut String, state: &State) -> Result<(), fmt::Error> {
 }
 
 /// Appends the old heap pages.
-fn put_heap(text: &mut String, state: &State) -> Result<(), fmt::Error> {
+fn put_heap(text: &mut String, state: &State) -> Result<(), AllocError> {
     text.push_str(" heap")?;
     for k in 0..4 {
         if let Some(page) = state.heap_page(k) {
@@ -100,7 +99,7 @@ fn put_heap(text: &mut String, state: &State) -> Result<(), fmt::Error> {
 }
 
 /// What a state says.
-fn tell(alloc: Global, state: &State) -> Result<String, fmt::Error> {
+fn tell(alloc: Global, state: &State) -> Result<String, AllocError> {
     let (length, xid) = (state.length(), state.next_xid());
     let (serial, commits) = (state.next_serial(), state.commits());
     let runs = if state.has_running() { " runs," } else { "" };
@@ -117,39 +116,24 @@ fn tell(alloc: Global, state: &State) -> Result<String, fmt::Error> {
 }
 
 /// What a state says, once more where that is refused.
-fn told(alloc: Global, state: &State) -> Result<String, fmt::Error> {
+fn told(alloc: Global, state: &State) -> Result<String, AllocError> {
     match tell(alloc, state) {
         Ok(text) => Ok(text),
         Err(_) => tell(alloc, state),
     }
 }
 
-/// A record more, for which room is made before where its number is even; whether a refused call left the state as
-/// it was.
-fn takes(alloc: Global, state: &mut State, record: &Record) -> Result<bool, fmt::Error> {
-    let before = told(alloc, state)?;
+/// A record more, once more where it is refused. Room is made for it before where its number is even.
+fn take_record(state: &mut State, record: &Record) -> Result<(), AllocError> {
     let has_no_room = record.number % 2 == 0 && state.make_room(record).is_err();
     if has_no_room || state.step(record).is_err() {
-        let after = told(alloc, state)?;
-        state.step(record)?;
-        return Ok(after == before);
+        return state.step(record);
     }
-    Ok(true)
-}
-
-/// Whether the state says this after a record more.
-fn tells_then(
-    alloc: Global,
-    state: &mut State,
-    record: &Record,
-    tells: &str,
-) -> Result<bool, fmt::Error> {
-    let kept = takes(alloc, state, record)?;
-    Ok(kept && told(alloc, state)?.as_str() == tells)
+    Ok(())
 }
 
 /// Whether the state says what its row says after a record more.
-fn is_followed(alloc: Global, state: &mut State, row: &str) -> Result<bool, fmt::Error> {
+fn is_followed(alloc: Global, state: &mut State, row: &str) -> Result<bool, AllocError> {
     let (words, rest) = cut(row);
     let (pages, rest) = cut(rest);
     let (front, tells) = cut(rest);
@@ -158,7 +142,8 @@ fn is_followed(alloc: Global, state: &mut State, row: &str) -> Result<bool, fmt:
         Ok(record) => record,
         Err(_) => record(alloc, state, words, pages, front)?,
     };
-    tells_then(alloc, state, &next, tells)
+    take_record(state, &next)?;
+    Ok(told(alloc, state)?.as_str() == tells)
 }
 
 /// The fields of a head: the one that is placed first, a new one with serial 2 of transaction 1, or one that
@@ -235,27 +220,29 @@ struct Move<'a> {
     since: u64,
 }
 
-/// Which calls find a record valid: those of Create, Begin, Commit, Abort and PlaceHead.
-fn verdicts(alloc: Global, state: &State, m: &Move<'_>) -> Result<[bool; 5], AllocError> {
-    Ok([
-        valid_create(state, m.record, m.before, m.after, 0, m.since)?,
-        valid_begin(state, m.record, m.before, m.after, 0, m.since)?,
-        valid_commit(state, m.record, m.before, m.after, 0, m.since)?,
-        valid_abort(state, m.record, m.before, m.after, 0, m.since)?,
-        valid_place_head(alloc, state, m.record, m.before, m.after, 0, m.since)?,
-    ])
-}
-
-/// Whether this call finds it valid, and no other.
-fn is_judged(alloc: Global, state: &State, m: &Move<'_>, call: &str) -> Result<bool, AllocError> {
-    let wanted = [
-        call == "Create",
-        call == "Begin",
-        call == "Commit",
-        call == "Abort",
-        call == "PlaceHead",
-    ];
-    Ok(verdicts(alloc, state, m)? == wanted)
+/// Puts the names of the calls that find a record valid, of those of Create, Begin, Commit, Abort and PlaceHead.
+fn put_valid(
+    alloc: Global,
+    out: &mut String,
+    state: &State,
+    m: &Move<'_>,
+) -> Result<(), AllocError> {
+    if valid_create(state, m.record, m.before, m.after, 0, m.since)? {
+        out.push_str("Create")?;
+    }
+    if valid_begin(state, m.record, m.before, m.after, 0, m.since)? {
+        out.push_str("Begin")?;
+    }
+    if valid_commit(state, m.record, m.before, m.after, 0, m.since)? {
+        out.push_str("Commit")?;
+    }
+    if valid_abort(state, m.record, m.before, m.after, 0, m.since)? {
+        out.push_str("Abort")?;
+    }
+    if valid_place_head(alloc, state, m.record, m.before, m.after, 0, m.since)? {
+        out.push_str("PlaceHead")?;
+    }
+    Ok(())
 }
 
 /// Whether a record is found valid by the call that words say, with these pages before and after, and since.
@@ -276,7 +263,9 @@ fn is_valid(
         after: &news,
         since: long(since),
     };
-    is_judged(alloc, state, &m, call)
+    let mut found = String::new(alloc);
+    put_valid(alloc, &mut found, state, &m)?;
+    Ok(found.as_str() == if call == "none" { "" } else { call })
 }
 
 /// Whether a record is found valid by the call that its row says, and by no other.
@@ -315,7 +304,7 @@ fn starts(state: &mut State, page: &str) -> bool {
 }
 
 /// Whether a row holds.
-fn holds(alloc: Global, state: &mut State, row: &str) -> Result<bool, fmt::Error> {
+fn holds(alloc: Global, state: &mut State, row: &str) -> Result<bool, AllocError> {
     let (verb, words) = word(row);
     match verb {
         "new" => {
@@ -324,14 +313,14 @@ fn holds(alloc: Global, state: &mut State, row: &str) -> Result<bool, fmt::Error
             Ok(true)
         }
         "start" => Ok(starts(state, words)),
-        "limits" | "take" | "fate" | "use" => Ok(tells(alloc, state, verb, words)?),
-        "valid" => Ok(is_found(alloc, state, words)?),
+        "limits" | "take" | "fate" | "use" => tells(alloc, state, verb, words),
+        "valid" => is_found(alloc, state, words),
         _ => is_followed(alloc, state, row),
     }
 }
 
 /// Each row holds.
-fn follow(rt: &impl Abort, alloc: Global, state: &mut State, rows: &str) -> Result<(), fmt::Error> {
+fn follow(rt: &impl Abort, alloc: Global, state: &mut State, rows: &str) -> Result<(), AllocError> {
     for row in rows.lines() {
         see(rt, holds(alloc, state, row.trim())?, row);
     }

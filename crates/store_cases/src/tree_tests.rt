@@ -1,0 +1,219 @@
+// Pages of posting trees: items sought, leaves made, filled and split, roots that grow, parents that take a new page.
+ghost use Rattle.std.specs.Prelude.{◌≡◌, ◌≤◌, IsTrue};
+ghost use Rattle.page_types.specs.Encoding.{count_of};
+ghost use Rattle.page_types.specs.Pages.{IsPage};
+ghost use Rattle.posting_tree.specs.Adding.{IsPostLeaf};
+ghost use Rattle.posting_tree.specs.Reading.{IsPostBody};
+
+use crate::heap_tests::has_bytes;
+use crate::kinds::{Kind, try_rows};
+use crate::page_tests::page_in;
+use crate::rows::{bytes_of, cut, number, page_with, word};
+use page_types::{Body, ITEM_LIMIT, MOST_INLINE_BYTES, Page};
+use posting_code::{Items, Keep};
+use posting_tree::{Added, add, adopt, find, first_child, grow, has_room, leaf, split, upper};
+use std::alloc::{AllocError, Global};
+use std::test::Fail;
+
+/// What is done with a page, the page before, and what comes of it. `find` has an item; `tell` gives the first child,
+/// the greatest item, and whether a child more has room; `leaf` has a list, and no page before; `add` has two items;
+/// `half` and `most` have the number of the new page of a split, and `grow` that of the root's child; `adopt` has the
+/// page that was split, the new one, and the item that divides them.
+const TREES: &str = "\
+    find 2 | 07 00 0300 00*4 00*8 0700 00*6 00*4 010101 | Here
+    find 4 | 07 00 0300 00*4 00*8 0700 00*6 00*4 010101 | Absent
+    find 1 | 07 00 0000 00*4 00*8 0400 00*6 00*4 | Absent
+    find 5 | 07 00 0300 09 00*3 00*8 0700 00*6 05 00*3 010101 | Absent
+    find 6 | 07 00 0300 09 00*3 00*8 0700 00*6 05 00*3 010101 | Right { page: 9 }
+    find 300 | 08 00 0200 00*4 00*8 1000 00*6 08 00*3 2c01 00*2 09 00*3 ffffffff | Down { child: 8 }
+    find 301 | 08 00 0200 00*4 00*8 1000 00*6 08 00*3 2c01 00*2 09 00*3 ffffffff | Down { child: 9 }
+    find 2147483647 | 08 00 0200 00*4 00*8 1000 00*6 08 00*3 2c01 00*2 09 00*3 ffffffff | Down { child: 9 }
+    find 400 | 08 00 0200 0b 00*3 00*8 1000 00*6 08 00*3 2c01 00*2 09 00*3 9001 00*2 | Down { child: 9 }
+    find 401 | 08 00 0200 0b 00*3 00*8 1000 00*6 08 00*3 2c01 00*2 09 00*3 9001 00*2 | Right { page: 11 }
+    tell | 08 00 0200 00*4 00*8 1000 00*6 08 00*3 2c01 00*2 09 00*3 ffffffff | Some(8) 4294967295 true
+    tell | 08 00 0200 0b 00*3 00*8 1000 00*6 08 00*3 2c01 00*2 09 00*3 9001 00*2 | Some(8) 400 true
+    tell | 07 00 0300 00*4 00*8 0700 00*6 00*4 010101 | None 0 true
+    tell | 07 00 0300 09 00*3 00*8 0700 00*6 05 00*3 010101 | None 5 true
+    leaf 010101 | 00 | 07 00 0300 00*4 00*8 0700 00*6 00*4 010101
+    leaf 8020 | 00 | 07 00 0100 00*4 00*8 0600 00*6 00*4 8020
+    add 4097 4098 | 07 00 0100 00*4 00*8 0600 00*6 00*4 8020 | 07 00 0300 00*4 00*8 0800 00*6 00*4 80200101
+    add 4 6 | 07 00 0300 09 00*3 00*8 0700 00*6 08 00*3 010101 | 07 00 0500 09 00*3 00*8 0900 00*6 08 00*3 \
+        0101010102
+    add 1 2 | 07 00 0100 00*4 00*8 0500 00*6 00*4 03 | 07 00 0300 00*4 00*8 0700 00*6 00*4 010101
+    add 1 150 | 07 00 0200 09 00*3 00*8 0700 00*6 2c01 00*2 01ab02 | 07 00 0300 09 00*3 00*8 0900 00*6 2c01 \
+        00*2 0195019601
+    add 1 2147483647 | 07 00 0000 00*4 00*8 0400 00*6 00*4 | 07 00 0200 00*4 00*8 0a00 00*6 00*4 01feffffff07
+    add 8160 8164 | 07 00 e31f 00*4 00*8 e71f 00*6 00*4 01*8163 | 07 00 e41f 00*4 00*8 e81f 00*6 00*4 01*8164
+    add 8164 8165 | 07 00 e31f 00*4 00*8 e71f 00*6 00*4 01*8163 | full
+    half 5 | 07 00 0400 09 00*3 00*8 0800 00*6 09 00*3 01010101 | 07 00 0200 05 00*3 00*8 0600 00*6 02 00*3 \
+        0101; 07 00 0200 09 00*3 00*8 0600 00*6 09 00*3 0301
+    most 5 | 07 00 0400 09 00*3 00*8 0800 00*6 09 00*3 01010101 | 07 00 0300 05 00*3 00*8 0700 00*6 03 00*3 \
+        010101; 07 00 0100 09 00*3 00*8 0500 00*6 09 00*3 04
+    half 5 | 07 00 0200 00*4 00*8 0700 00*6 00*4 01c701 | 07 00 0100 05 00*3 00*8 0500 00*6 01 00*3 01; 07 00 \
+        0100 00*4 00*8 0600 00*6 00*4 c801
+    half 5 | 07 00 0600 00*4 00*8 0e00 00*6 00*4 01010106a3029494b102 | 07 00 0500 05 00*3 00*8 0a00 00*6 2c01 \
+        00*2 01010106a302; 07 00 0100 00*4 00*8 0800 00*6 00*4 c096b102
+    most 5 | 07 00 0400 00*4 00*8 0c00 00*6 00*4 010101fdc5868f01 | 07 00 0300 05 00*3 00*8 0700 00*6 03 00*3 \
+        010101; 07 00 0100 00*4 00*8 0900 00*6 00*4 80c6868f01
+    most 5 | 07 00 0200 00*4 00*8 0a00 00*6 00*4 01feffffff07 | 07 00 0100 05 00*3 00*8 0500 00*6 01 00*3 01; \
+        07 00 0100 00*4 00*8 0900 00*6 00*4 ffffffff07
+    half 5 | 08 00 0300 00*4 00*8 1800 00*6 08 00*3 2c01 00*2 09 00*3 9001 00*2 0a 00*3 ffffffff | 08 00 0200 \
+        05 00*3 00*8 1000 00*6 08 00*3 2c01 00*2 09 00*3 9001 00*2; 08 00 0100 00*4 00*8 0800 00*6 0a 00*3 \
+        ffffffff
+    most 5 | 08 00 0400 0c 00*3 00*8 2000 00*6 08 00*3 2c01 00*2 09 00*3 9001 00*2 0a 00*3 f401 00*2 0b 00*3 \
+        5802 00*2 | 08 00 0300 05 00*3 00*8 1800 00*6 08 00*3 2c01 00*2 09 00*3 9001 00*2 0a 00*3 f401 00*2; 08 00 \
+        0100 0c 00*3 00*8 0800 00*6 0b 00*3 5802 00*2
+    grow 6 | 07 00 0300 00*4 00*8 0700 00*6 00*4 010101 | 08 00 0100 00*4 00*8 0800 00*6 06 00*3 ffffffff; 07 \
+        00 0300 00*4 00*8 0700 00*6 00*4 010101
+    grow 6 | 08 00 0300 00*4 00*8 1800 00*6 08 00*3 2c01 00*2 09 00*3 9001 00*2 0a 00*3 ffffffff | 08 00 0100 \
+        00*4 00*8 0800 00*6 06 00*3 ffffffff; 08 00 0300 00*4 00*8 1800 00*6 08 00*3 2c01 00*2 09 00*3 9001 00*2 \
+        0a 00*3 ffffffff
+    adopt 8 7 200 | 08 00 0200 00*4 00*8 1000 00*6 08 00*3 2c01 00*2 09 00*3 ffffffff | 08 00 0300 00*4 00*8 \
+        1800 00*6 08 00*3 c8 00*3 07 00*3 2c01 00*2 09 00*3 ffffffff
+    adopt 9 7 500 | 08 00 0200 00*4 00*8 1000 00*6 08 00*3 2c01 00*2 09 00*3 ffffffff | 08 00 0300 00*4 00*8 \
+        1800 00*6 08 00*3 2c01 00*2 09 00*3 f401 00*2 07 00*3 ffffffff
+    adopt 7 6 500 | 08 00 0200 00*4 00*8 1000 00*6 08 00*3 2c01 00*2 09 00*3 ffffffff | none
+    adopt 7 6 500 | 07 00 0300 00*4 00*8 0700 00*6 00*4 010101 | none
+";
+
+/// Whether a page is a leaf of a posting tree.
+fn is_leaf(page: &Page) -> bool
+    ensures { IsTrue result → IsPostLeaf page.now.body }
+{
+    matches!(page.body, Body::PostLeaf { .. })
+}
+
+/// Whether a page is one of a posting tree.
+fn is_tree_page(page: &Page) -> bool
+    ensures { IsTrue result → IsPostBody page.now.body }
+{
+    matches!(page.body, Body::PostLeaf { .. } | Body::PostInner(_))
+}
+
+/// How many items or children a page has.
+fn members(page: &Page) -> usize
+    ensures { result ≤ count_of page.now.body }
+{
+    match &page.body {
+        Body::PostLeaf { items, .. } => match Items::new(items.as_slice()) {
+            Ok(list) => list.len(),
+            Err(_) => 0,
+        },
+        Body::PostInner(children) => children.len(),
+        _ => 0,
+    }
+}
+
+/// Whether an item is found as its row says.
+fn is_found(alloc: Global, page: &Page, item: u32, tells: &str) -> Result<bool, AllocError>
+    requires page { IsPage page.now }
+    requires postings { IsPostBody page.now.body }
+{
+    if item == 0 || item >= ITEM_LIMIT {
+        return Ok(false);
+    }
+    let text = format!(in alloc; "{:?}", find(page, item))?;
+    Ok(text.as_str() == tells)
+}
+
+/// Whether a page has the first child, the greatest item and the room that its row says.
+fn is_told(alloc: Global, page: &Page, tells: &str) -> Result<bool, AllocError>
+    requires { IsPage page.now }
+{
+    let (first, upper, room) = (first_child(page), upper(page), has_room(page));
+    let text = format!(in alloc; "{first:?} {upper} {room}")?;
+    Ok(text.as_str() == tells)
+}
+
+/// Whether the leaf of a list is this page.
+fn is_made(alloc: Global, words: &str, tells: &str) -> Result<bool, AllocError> {
+    let list = bytes_of(alloc, words)?;
+    if Items::new(&list).is_err() || list.len() > MOST_INLINE_BYTES {
+        return Ok(false);
+    }
+    has_bytes(alloc, &leaf(alloc, &list)?, tells)
+}
+
+/// Whether a leaf with two items more is this page, or has no room for them.
+fn is_filled(alloc: Global, page: &Page, words: &str, tells: &str) -> Result<bool, AllocError>
+    requires { IsPage page.now }
+{
+    let (first, second) = word(words);
+    let (first, second) = (number(first), number(second));
+    if !is_leaf(page) || first == 0 || first >= second || second >= ITEM_LIMIT {
+        return Ok(false);
+    }
+    match add(alloc, page, &[first, second])? {
+        Added::Full => Ok(tells == "full"),
+        Added::Done(filled) => has_bytes(alloc, &filled, tells),
+    }
+}
+
+/// Whether two pages are these.
+fn have_bytes(alloc: Global, pages: &(Page, Page), tells: &str) -> Result<bool, AllocError> {
+    let (first, second) = tells.split_once("; ").unwrap_or((tells, ""));
+    Ok(has_bytes(alloc, &pages.0, first)? && has_bytes(alloc, &pages.1, second)?)
+}
+
+/// Whether a page is split into these.
+fn is_split(
+    alloc: Global,
+    page: &Page,
+    keep: Keep,
+    new: u32,
+    tells: &str,
+) -> Result<bool, AllocError>
+    requires page { IsPage page.now }
+    requires postings { IsPostBody page.now.body }
+{
+    if members(page) < 2 {
+        return Ok(false);
+    }
+    have_bytes(alloc, &split(alloc, page, new, keep)?, tells)
+}
+
+/// Whether a parent with one child more is this page, or does not name the child.
+fn is_adopted(alloc: Global, parent: &Page, words: &str, tells: &str) -> Result<bool, AllocError> {
+    let (page, rest) = word(words);
+    let (new, mid) = word(rest);
+    match adopt(parent, number(page), number(new), number(mid))? {
+        None => Ok(tells == "none"),
+        Some(adopted) => has_bytes(alloc, &adopted, tells),
+    }
+}
+
+/// Whether a change of a page, or a look at it, gives what its row says.
+fn gives(alloc: Global, page: &Page, words: &str, tells: &str) -> Result<bool, AllocError>
+    requires { IsPage page.now }
+{
+    let (verb, words) = word(words);
+    if !is_tree_page(page) {
+        return is_made(alloc, words, tells);
+    }
+    match verb {
+        "find" => is_found(alloc, page, number(words), tells),
+        "tell" => is_told(alloc, page, tells),
+        "add" => is_filled(alloc, page, words, tells),
+        "half" => is_split(alloc, page, Keep::Half, number(words), tells),
+        "most" => is_split(alloc, page, Keep::Most, number(words), tells),
+        "grow" => have_bytes(alloc, &grow(alloc, page, number(words))?, tells),
+        _ => is_adopted(alloc, page, words, tells),
+    }
+}
+
+/// Whether a row holds.
+pub(crate) fn holds(alloc: Global, row: &str) -> Result<bool, AllocError> {
+    let (words, rest) = cut(row);
+    let (before, tells) = cut(rest);
+    let bytes = page_with(alloc, before)?;
+    match page_in(alloc, &bytes) {
+        Ok(page) => gives(alloc, &page, words, tells),
+        Err(_) => Ok(false),
+    }
+}
+
+#[test]
+fn posting_pages_are_read_made_and_changed(rt: HostRuntime) -> Result<(), Fail> {
+    try_rows(&rt, rt.alloc(), Kind::Tree, TREES)?;
+    Ok(())
+}
