@@ -39,7 +39,8 @@ use Rattle.gin_place.specs.Placing.{HasRight, IsOnWay, IsLeft}
 use Rattle.gin_place.specs.Causes.{CannotUse, HasPlace}
 use Rattle.gin_place.specs.Trees.{root_of}
 use Rattle.gin_place.specs.declared.sought.Sought.{Sought}
-use Rattle.gin_place.proofs.LawfulWays.{IsSmall, has_place, root_high, not_free_in}
+use Rattle.gin_place.proofs.LawfulWays.{IsSmall, has_place, root_high}
+use Rattle.gin_place.proofs.Parts.{not_free_in}
 use Rattle.gin_place.proofs.TreeWays.{leads_then}
 use Rattle.gin_place.proofs.Owing.{right_of}
 

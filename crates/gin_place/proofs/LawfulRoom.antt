@@ -48,7 +48,7 @@ use Rattle.gin_place.specs.declared.sought.Sought.TheVariants as sought
 use Rattle.gin_place.proofs.Lawful.{past_free, lies_as, no_bytes, usable}
 use Rattle.gin_place.proofs.LawfulTrees.{root_right, halves_between, child_divides}
 use Rattle.gin_place.proofs.LawfulPosts as in_posts
-use Rattle.gin_place.proofs.LawfulWays.{not_free_in}
+use Rattle.gin_place.proofs.Parts.{not_free_in}
 use Rattle.gin_place.proofs.TreeWays.{leads_then, same_then}
 use Rattle.gin_place.proofs.Owing.{right_of}
 use Rattle.gin_place.proofs.Parts.{cut_divides}

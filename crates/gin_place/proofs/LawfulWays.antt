@@ -1,12 +1,10 @@
 -- In a legal log the pages of a way have a place for what is sought.
-use Rattle.std.proofs.Common.{◌≢◌, ◌<◌, ℕ, ◌∷◌, ◌++◌, sym, subst, inl, inr, arith}
+use Rattle.std.proofs.Common.{◌<◌, ℕ, ◌∷◌, ◌++◌, sym, subst, inl, inr, arith}
 use Rattle.std.specs.Prelude.{⊤}
 use Rattle.std.proofs.lemmas.Cmp.{nat_list_cmp_total}
 use Rattle.ts_base.specs.Keys.{Key}
 use Rattle.page_types.specs.Keys.{KeyLess}
 use Rattle.page_types.specs.Numbers.{item_limit}
-use Rattle.page_types.specs.declared.page.Body.{Body}
-use Rattle.page_types.specs.declared.page.Body.TheVariants as body
 use Rattle.core_state.specs.Log.{Pages}
 use Rattle.core_state.specs.Changes.{UpTo}
 use Rattle.core_state.specs.TreeRules.{Toward, TowardItem}
@@ -20,17 +18,10 @@ use Rattle.posting_tree.specs.Finding as posts
 use Rattle.posting_tree.specs.Reading.{IsPostBody}
 use Rattle.posting_tree.specs.declared.finding.Found.TheVariants as post_found
 use Rattle.gin_place.specs.Causes.{HasPlace}
-use Rattle.gin_place.specs.Trees.{root_of, IsTreeBody, Leads, IsHighIn}
+use Rattle.gin_place.specs.Trees.{root_of, Leads, IsHighIn}
 use Rattle.gin_place.specs.declared.sought.Sought.{Sought}
 use Rattle.gin_place.specs.declared.sought.Sought.TheVariants as sought
 use Rattle.gin_place.proofs.TreesOn.{child_high, post_child_high}
-
--- pages of the trees are no free ones
-pub not_free_in : (t : Sought) (b : Body) → IsTreeBody t b → b ≢ body.Free
-not_free_in sought.Key _ (entries.IsEntryBody.leaf high es) e = let z : ⊥ = cc in z
-not_free_in sought.Key _ (entries.IsEntryBody.inner cs) e = let z : ⊥ = cc in z
-not_free_in (sought.Item root item) _ (IsPostBody.leaf high list) e = let z : ⊥ = cc in z
-not_free_in (sought.Item root item) _ (IsPostBody.inner cs) e = let z : ⊥ = cc in z
 
 -- ── the entry tree ──
 
