@@ -19,6 +19,8 @@ pub record HasEnded (h h' : InMemory) : Type 0 where
   pub none : h'.value.running ≡ []
   pub fates : length h'.value.fates ≡ length h.value.fates
   pub room_fates : h'.room.fates ≡ h.room.fates
+  pub freed : h'.value.freed ≡ h.value.freed
+  pub room_freed : h'.room.freed ≡ h.room.freed
   pub room_pages : h'.room.pages ≡ h.room.pages
   pub left : h.room.running ≤ h'.room.running
 
@@ -29,7 +31,7 @@ room_rest h h' e (kind.Commit c) x n logged room = none_runs _ x h'.value.runnin
 room_rest h h' e (kind.PlaceHead item serial) x n logged room = none_runs _ x h'.value.running e.none
 room_rest h h' e (kind.MarkDeleted item serial) x n logged room = none_runs _ x h'.value.running e.none
 room_rest h h' e (kind.Checkpoint redo) x n logged room = absurd logged
-room_rest h h' e kind.FreeSlots x n logged room = absurd logged
+room_rest h h' e kind.FreeSlots x n logged room = omega (arith, room, ap length e.freed, e.room_freed)
 room_rest h h' e _ x n logged room = tt
 
 has_ended : (h h' : InMemory) (r : Record) → r.kind ≡ kind.Abort → r.xid ≡ 0 → h'.value ≡ step_of r h.value
@@ -44,6 +46,8 @@ has_ended h h' r is zero value pages left =
       none = ap (λ (s : StateValue). s.running) now;
       fates = ap (λ (s : StateValue). length s.fates) now ∙ length-all_ended h.value.running h.value.fates;
       room_fates = kept.2;
+      freed = ap (λ (s : StateValue). s.freed) now;
+      room_freed = kept.5;
       room_pages = pages;
       left = kept.3;
     }

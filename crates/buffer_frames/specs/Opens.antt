@@ -16,10 +16,9 @@ abbrev pub IsEarlyKind : Kind → Type 0
 IsEarlyKind (kind.Checkpoint redo) = ⊥
 IsEarlyKind _ = ⊤
 
--- the kinds that a session logs: no checkpoint, and no slot is freed
+-- the kinds that a session logs: no checkpoint
 abbrev pub IsLoggedKind : Kind → Type 0
 IsLoggedKind (kind.Checkpoint redo) = ⊥
-IsLoggedKind kind.FreeSlots = ⊥
 IsLoggedKind _ = ⊤
 
 -- A legal log with its history. It has no checkpoint.

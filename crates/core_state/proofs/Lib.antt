@@ -29,6 +29,7 @@ pub mod KeptTrees
 pub mod Law
 pub mod WorkedPending
 pub mod WorkedRun
+pub mod NeverAgain
 -- Private is how the laws are proved.
 mod Taken
 mod Leaving

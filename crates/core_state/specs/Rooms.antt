@@ -91,5 +91,5 @@ LeavesRoom kind.Begin x old new =
 LeavesRoom (kind.PlaceHead item serial) x old new = KeepsLists old new
 LeavesRoom kind.Abort x old new =
     x ≡ 0 → KeepsLists old new × (new.names ≡ old.names) × (new.fates ≡ old.fates)
-    × (old.running ≤ new.running) × (new.serials ≡ old.serials)
+    × (old.running ≤ new.running) × (new.serials ≡ old.serials) × (new.freed ≡ old.freed)
 LeavesRoom _ x old new = ⊤

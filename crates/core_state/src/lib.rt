@@ -37,10 +37,10 @@ pub use laws::{
     bullets_hold, documents_hold, history_is_one, keys_are_one, newest_may_go, pages_are_shown,
     pages_hold, records_keep, state_follows, steady_hold, valid_is_monotone,
 };
-pub use linking::{valid_add_row, valid_link_pending, valid_put_pending};
+pub use linking::{begin_with, valid_add_row, valid_link_pending, valid_put_pending};
 pub use lives::{Life, Placed};
-pub use marking::{valid_mark_deleted, valid_put_overflow};
-pub use placing::valid_place_head;
+pub use marking::{head_in, valid_mark_deleted, valid_put_overflow};
+pub use placing::{others_stay, valid_place_head};
 pub use sessions::{logged_steps_hold, pending_steps_hold, pins_hold, steps_hold, views_hold};
 pub use settings::Settings;
 pub use shifting::valid_shift;

@@ -91,7 +91,7 @@ fn is_same_row(a: RowRef<'_>, b: RowRef<'_>) -> bool
 }
 
 /// Whether rows begin with others.
-pub(crate) fn begin_with(rows: &Rows, front: &Rows) -> bool
+pub fn begin_with(rows: &Rows, front: &Rows) -> bool
     ensures { result ≡ true ↔ BeginWith rows.now front.now }
 {
     for k in 0..front.len() {

@@ -22,7 +22,7 @@ use page_types::{
 use std::alloc::AllocError;
 
 /// The head of the document with this name, if it has its slot of this heap page.
-pub(crate) fn head_in(page: &Page, name: Name) -> Option<HeadRef<'_>>
+pub fn head_in(page: &Page, name: Name) -> Option<HeadRef<'_>>
     ensures some { IfSome result (λ h. HasHead page.now name (head_shown h)) }
     ensures none { IfNone result ((h : Head) → HasHead page.now name h → ⊥) }
 {

@@ -28,7 +28,7 @@ fn is_same(a: Option<HeadRef<'_>>, b: Option<HeadRef<'_>>) -> bool
 }
 
 /// Whether all slots but this one stay.
-pub(crate) fn others_stay(slots: &Slots, k: usize, new: &Slots) -> bool
+pub fn others_stay(slots: &Slots, k: usize, new: &Slots) -> bool
     ensures { result ≡ true ↔ ((j : ℕ) → j ≢ k → slot_at new.now j ≡ slot_at slots.now j) }
 {
     let end = slots.len().max(new.len());

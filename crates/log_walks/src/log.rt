@@ -4,7 +4,7 @@ use record_code::{RecordError, decode_record};
 use std::alloc::{AllocError, AllocFailed, Global};
 
 /// The text after the commit byte of the store.
-const HEADER: &[u8] = b"GINSH DRAFT 0005";
+const HEADER: &[u8] = b"GINSH STORE 0001";
 
 /// A log that is no longer than this is to be created.
 const MOST_UNCREATED: usize = 17;

@@ -5,7 +5,7 @@ use Rattle.wal.specs.declared.sizes.TheConstants.{HEADER_BYTES, CREATED_BYTES, L
 
 -- the name of the format
 abbrev pub format_name : List ℕ
-format_name = codes "GINSH DRAFT 0005"
+format_name = codes "GINSH STORE 0001"
 
 -- the commit byte of the store, set, and the name of the format
 abbrev pub header : List ℕ

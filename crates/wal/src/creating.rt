@@ -14,7 +14,7 @@ use disk_trait::{Disk, Failed, File, write_and_sync};
 
 /// A log without a batch: the store's commit byte, open, the name of the format, and the first batch's
 /// commit byte, closed.
-pub const CREATED: &[u8; 18] = b"\x01GINSH DRAFT 0005\0";
+pub const CREATED: &[u8; 18] = b"\x01GINSH STORE 0001\0";
 
 /// The name of the format, and the first batch's commit byte, unset.
 fn past_gate() -> &'static [u8]

@@ -1,6 +1,6 @@
 //! The write-ahead log: batches of bytes, each of which counts from its flush on.
 //!
-//! Byte 0 of the file is the store's commit byte, bytes 1 to 16 the text `GINSH DRAFT 0005`, byte
+//! Byte 0 of the file is the store's commit byte, bytes 1 to 16 the text `GINSH STORE 0001`, byte
 //! 17 the commit byte of the first batch.
 //! A commit byte is set where it is 1, and else unset. A batch is its commit byte, its length as a
 //! u32 (little end first, at least 1),
