@@ -102,7 +102,7 @@ is_placed p h k right new g fits link = record {
 }
 
 -- what one slot becomes
-changes_slot : (old : Page) (slots : List (Option Head)) (k : ℕ) (s : Option Head) → old.body ≡ body.Heap slots
+pub changes_slot : (old : Page) (slots : List (Option Head)) (k : ℕ) (s : Option Head) → old.body ≡ body.Heap slots
     → k < length slots → ChangesSlot old k s (record old { body = body.Heap (set slots k s) })
 changes_slot old slots k s was lt = record {
   slots = slots;
@@ -114,7 +114,7 @@ changes_slot old slots k s was lt = record {
 }
 
 -- a page of which one slot gets no longer has an encoding still
-changed_page : (old : Page) (slots : List (Option Head)) (k : ℕ) (s : Option Head) → old.body ≡ body.Heap slots
+pub changed_page : (old : Page) (slots : List (Option Head)) (k : ℕ) (s : Option Head) → old.body ≡ body.Heap slots
     → k < length slots → length (slot_bytes s) ≤ length (slot_bytes (slot_at slots k)) → IsPage old → IsSlot s
     → IsPage (record old { body = body.Heap (set slots k s) })
 changed_page old slots k s was lt small page is =

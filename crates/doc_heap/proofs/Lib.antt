@@ -1,4 +1,5 @@
 pub mod SlotLists
 pub mod SlotSizes
 pub mod HeapSheets
+pub mod Leavings
 pub mod Worked

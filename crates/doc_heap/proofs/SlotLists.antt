@@ -17,13 +17,13 @@ same_or_not j k = grind arith
 below_same_or_above : (j k : ℕ) → (j < k) ⊎ ((j ≡ k) ⊎ (k < j))
 below_same_or_above j k = grind arith
 
-set_here : (slots : List (Option Head)) (k : ℕ) (s : Option Head) → k < length slots
+pub set_here : (slots : List (Option Head)) (k : ℕ) (s : Option Head) → k < length slots
     → slot_at (set slots k s) k ≡ s
 set_here [] k s lt = absurd (omega arith)
 set_here (a ∷ slots) zero s lt = refl
 set_here (a ∷ slots) (suc k) s lt = set_here slots k s (omega arith)
 
-set_else : (slots : List (Option Head)) (k : ℕ) (s : Option Head) (j : ℕ) → j ≢ k
+pub set_else : (slots : List (Option Head)) (k : ℕ) (s : Option Head) (j : ℕ) → j ≢ k
     → slot_at (set slots k s) j ≡ slot_at slots j
 set_else [] k s j off = refl
 set_else (a ∷ slots) zero s zero off = absurd (off refl)

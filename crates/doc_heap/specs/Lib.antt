@@ -1,2 +1,4 @@
 pub mod HeapPages
+pub mod Inner
+pub mod Leaving
 pub mod Logging
