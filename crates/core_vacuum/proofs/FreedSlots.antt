@@ -83,7 +83,7 @@ stays_else k floor a b (SlotLoses.same e) off = e
 stays_else k floor a b (SlotLoses.freed h e f may) off =
     absurd (off ((λ none. none_some h (sym none ∙ e)), f))
 
-below_or_at : (i n : ℕ) → i < n + 1 → (i < n) ⊎ (i ≡ n)
+pub below_or_at : (i n : ℕ) → i < n + 1 → (i < n) ⊎ (i ≡ n)
 below_or_at i n lt = grind (arith, lt)
 
 below_or_past : (i n : ℕ) → (i < n) ⊎ (n ≤ i)
@@ -132,17 +132,17 @@ some_goes k floor slots new n false end so go =
 
 -- ---- the record
 
-one_told : (xs : List Page) (x : Page) → length xs ≡ 1 → x ≡ get_or xs 0 x → xs ≡ x ∷ []
+pub one_told : (xs : List Page) (x : Page) → length xs ≡ 1 → x ≡ get_or xs 0 x → xs ≡ x ∷ []
 one_told [] x n e = absurd (omega (arith, n))
 one_told (y ∷ []) x n e = ap (λ (z : Page). z ∷ []) (sym e)
 one_told (y ∷ z ∷ zs) x n e = absurd (omega (arith, n))
 
-one_changed : (cs : List Change) → length cs ≡ 1 → (p : ℕ) × (pages_of cs ≡ p ∷ [])
+pub one_changed : (cs : List Change) → length cs ≡ 1 → (p : ℕ) × (pages_of cs ≡ p ∷ [])
 one_changed [] n = absurd (omega (arith, n))
 one_changed (c ∷ []) n = (c.page, refl)
 one_changed (c ∷ d ∷ cs) n = absurd (omega (arith, n))
 
-one_back : (xs : List Page) (x y : Page) → xs ≡ y ∷ [] → x ≡ get_or xs 0 x → y ≡ x
+pub one_back : (xs : List Page) (x y : Page) → xs ≡ y ∷ [] → x ≡ get_or xs 0 x → y ≡ x
 one_back xs x y e is = sym (is ∙ ap (λ (zs : List Page). get_or zs 0 x) e)
 
 pub freed_told : (floor : ℕ) (k : Known) (r : Record) (old new : Page) (before after : List Page)

@@ -19,12 +19,12 @@ use Rattle.core_state.specs.Changes.{made_with}
 use Rattle.core_state.specs.VacuumRules.{MayLeave, IsRemoveItems, IsDropped, IsDropPage, IsFreeSlots}
 use Rattle.core_state.specs.Legal.{IsLegal}
 use Rattle.core_state.specs.RecordKeeps.{SameRows, RecordKeeps}
+use Rattle.core_state.proofs.NeverAgain.{one_doc}
 use Rattle.core_state.proofs.Newest.{legal_less}
 use Rattle.core_state.proofs.PageLists.{same_or_not, of_one, one_page, two_pages}
 use Rattle.core_state.proofs.RulesByKind.{kind_rule}
 use Rattle.core_state.proofs.LawsHold.{records, steady}
 use Rattle.core_vacuum.specs.Keeping.{IsVacuum, VacuumHolds}
-use Rattle.core_vacuum.proofs.Out.{one_doc}
 use Rattle.core_vacuum.proofs.Turns.{newest_rule, each_turns}
 use Rattle.core_vacuum.proofs.Ways.{named_on, named_back, way_on, way_back, item_way_on}
 

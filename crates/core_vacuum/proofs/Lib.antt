@@ -13,3 +13,6 @@ mod OneEntry
 mod DeadHeads
 mod HeapPages
 mod LostChildren
+mod AmongLists
+mod GoneItems
+mod DroppedPages

@@ -9,7 +9,7 @@ use Rattle.page_types.specs.declared.page.Head.{Head}
 use Rattle.page_types.specs.declared.page.Body.{Body}
 use Rattle.page_types.specs.declared.page.Body.TheVariants as body
 use Rattle.core_state.specs.Log.{Log, Pages, Shows}
-use Rattle.core_state.specs.Documents.{Doc, Has, IsDead, page_of, slot_of, item_at, head_of, doc_at}
+use Rattle.core_state.specs.Documents.{Doc, Has, IsDead, page_of, slot_of, item_at, doc_at}
 use Rattle.core_state.specs.Known.{known}
 use Rattle.core_state.specs.Changes.{IsDeadHead}
 use Rattle.core_state.specs.VacuumRules.{MayLeave, IsGoneFrom}
@@ -17,6 +17,7 @@ use Rattle.core_state.specs.Legal.{IsLegal}
 use Rattle.core_state.specs.Steady.{EndsStay, IndexStays}
 use Rattle.core_state.specs.Allowed.{View, IsAllowed}
 use Rattle.core_state.proofs.LawsHold.{documents}
+use Rattle.core_state.proofs.NeverAgain.{one_doc}
 use Rattle.core_state.proofs.Steps.Seen.{steady_facts}
 use Rattle.core_maintenance.specs.Right.{HasRight}
 use Rattle.core_maintenance.proofs.Right.{index_stays}
@@ -50,15 +51,6 @@ module _ (v : View) (R : Log) (a : IsAllowed v R) (P : Pages) (shown : Shows v.s
     may = leave_still floor i out.may;
     swept = swept_kept v.seen R P a.pages (index_stays v R a P shown may) i out.swept;
   }
-
-some_one : (h k : Head) → Some h ≡ Some k → h ≡ k
-some_one h k e = cc
-
--- documents with one item and a slot are one
-pub one_doc : (P : Pages) (d e : Doc) (h k : Head) → Has P d h → Has P e k → d.item ≡ e.item → d ≡ e
-one_doc P d e h k a b same =
-    let head : h ≡ k = some_one h k (sym a.at ∙ ap (head_of P) same ∙ b.at) in
-    ap₂ doc_at same (sym a.serial ∙ ap (λ (x : Head). x.serial) head ∙ b.serial)
 
 -- so a document that has its slot is dead, and out of the index, where its item is
 pub gone_from : (R : Log) (P : Pages) (floor : ℕ) (d : Doc) (h : Head) → Has P d h → IsOut R P floor d.item

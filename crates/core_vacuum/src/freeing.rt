@@ -14,7 +14,7 @@ use page_types::{Body, HeadRef, Kind, Page, Record, Slots};
 use std::alloc::AllocError;
 
 /// Whether a head says that its document is dead by so many commits.
-fn is_dead(state: &State, head: HeadRef<'_>, floor: u32) -> bool
+pub fn is_dead(state: &State, head: HeadRef<'_>, floor: u32) -> bool
     ensures { result ≡ true ↔ IsDeadHead (fate_of state.now.value) floor (head_shown head.entry) }
 {
     if let Fate::Aborted = state.fate(head.fields.inserted_by) {
