@@ -61,7 +61,7 @@ module _ {D : Type 0} (device : Disk D) (s : ScanCore) where
     adds = adds_once device f f' (unpin_once device f f' p.pin pins k.added k.begins k.journal);
     journal = k.journal;
     lying = lie_still f f' k.others;
-    keeps = keeps_work p p' k.same.2 k.same.1 k.rises;
+    keeps = keeps_work p p' k.same.2 k.same.1 k.right.0 k.rises;
     holds = k.holds;
     pin = subst (λ (b : Bool). GivesUp b f p f' p') (sym took) (gone, pins);
   }

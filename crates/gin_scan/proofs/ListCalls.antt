@@ -42,7 +42,7 @@ module _ {D : Type 0} (device : Disk D) (a b : FramesValue D) (p q : Pass) where
     pins = pins;
     adds = adds_once device a b (calm_once device a b added state runs begins calm pins);
     lying = lie_still a b others;
-    keeps = keeps_work p q keeps.xid keeps.room rises;
+    keeps = keeps_work p q keeps.xid keeps.room keeps.work rises;
     calm = calm;
   }
 
@@ -79,7 +79,7 @@ pin_begins {D} device a b c p q r n none l pinned of k = record {
   held = k.same.0 ∙ l.held ∙ none;
   adds = adds_then device l.adds (adds_once device b c (pin_once device b c r n pinned k.added k.begins k.journal));
   lying = λ m x lies. lie_still b c k.others m x (l.lying m x lies);
-  keeps = works_then device p q r l.keeps (keeps_work q r k.same.2 k.same.1 k.rises);
+  keeps = works_then device p q r l.keeps (keeps_work q r k.same.2 k.same.1 k.right.0 k.rises);
   holds = k.holds ∙ l.holds;
   calm = subst (λ (j : JournalValue D). IsCalm device a.journal j) (sym k.journal) l.calm;
 }

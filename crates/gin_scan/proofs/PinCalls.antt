@@ -97,8 +97,8 @@ unpin_once device a b pin gone added begins same =
     journal_once device a b added begins same (pins_given_up a b pin gone)
 
 -- what a call keeps of the pass's work
-pub keeps_work : (p q : Pass) → q.xid ≡ p.xid → q.room ≡ p.room → PassRises p q → KeepsWork p q
-keeps_work p q xid room rises = record { xid = xid; room = room; rises = rises }
+pub keeps_work : (p q : Pass) → q.xid ≡ p.xid → q.room ≡ p.room → q.work ≡ p.work → PassRises p q → KeepsWork p q
+keeps_work p q xid room work rises = record { xid = xid; room = room; work = work; rises = rises }
 
 -- where no page changed its place, what lay there lies there still
 pub lie_still : {D : Type 0} (a b : FramesValue D) → KeepsOthers a b [] → LieStill a b

@@ -99,6 +99,7 @@ module _ {D : Type 0} (device : Disk D) where
   still_works p = record {
     xid = refl;
     room = refl;
+    work = refl;
     rises = record { seen = omega arith; shown = omega arith; floor = omega arith; since = omega arith };
   }
 
@@ -196,6 +197,7 @@ module _ {D : Type 0} (device : Disk D) where
   works_then p q r x y = record {
     xid = y.xid ∙ x.xid;
     room = y.room ∙ x.room;
+    work = y.work ∙ x.work;
     rises = record {
       seen = omega (arith, x.rises.seen, y.rises.seen);
       shown = omega (arith, x.rises.shown, y.rises.shown);
@@ -208,17 +210,17 @@ module _ {D : Type 0} (device : Disk D) where
   pub held_back_by : (a b c : FramesValue D) (p q r : Pass) (x : Sheet) → AddsNothing device a b → KeepsWork p q
       → q.pin ≡ p.pin → b.pins ≡ a.pins → ((n : ℕ) (d : Page) → n ≢ x.page → Lies a n d → Lies b n d)
       → Lies a x.page x.content → IsPassOf c r → IsHolding device c r [] → HasAdded device b c []
-      → PassRises q r → (r.pin ≡ q.pin) × (r.room ≡ q.room) × (r.xid ≡ q.xid) → RunsOn device b c
+      → PassRises q r → (r.pin ≡ q.pin) × (r.room ≡ q.room) × (r.xid ≡ q.xid) → r.work ≡ q.work → RunsOn device b c
       → KeepsState b c → Lies c x.page x.content → KeepsOthers b c (x.page ∷ [])
       → IsCalm device b.journal c.journal → BeginsOn device b.journal c.journal → c.pins ≡ b.pins
       → q.holds ≤ suc p.holds → r.holds ≡ q.holds → ReadsOn device a p c r
-  held_back_by a b c p q r x adds works pin pins taken was of holding added rises same runs state is others calm
+  held_back_by a b c p q r x adds works pin pins taken was of holding added rises same right runs state is others calm
       begins pins' holds holds' = record {
         is_pass = of;
         held = sym holding.all;
         adds = AddsNothing.then adds (calm_once b c added state runs begins calm pins');
         lying = still;
-        keeps = works_then p q r works (record { xid = same.2; room = same.1; rises = rises });
+        keeps = works_then p q r works (record { xid = same.2; room = same.1; work = right; rises = rises });
         one_page = omega (arith, holds, holds');
         pin = same.0 ∙ pin;
         pins = pins' ∙ pins;
@@ -238,7 +240,7 @@ module _ {D : Type 0} (device : Disk D) where
   pub held_back : (a b c : FramesValue D) (p q r : Pass) (x : Sheet) → AddsNothing device a b → KeepsWork p q
       → q.pin ≡ p.pin → b.pins ≡ a.pins → KeepsOthers a b (x.page ∷ []) → Lies a x.page x.content
       → IsPassOf c r → IsHolding device c r [] → HasAdded device b c []
-      → PassRises q r → (r.pin ≡ q.pin) × (r.room ≡ q.room) × (r.xid ≡ q.xid) → RunsOn device b c
+      → PassRises q r → (r.pin ≡ q.pin) × (r.room ≡ q.room) × (r.xid ≡ q.xid) → r.work ≡ q.work → RunsOn device b c
       → KeepsState b c → Lies c x.page x.content → KeepsOthers b c (x.page ∷ [])
       → IsCalm device b.journal c.journal → BeginsOn device b.journal c.journal → c.pins ≡ b.pins
       → q.holds ≤ suc p.holds → r.holds ≡ q.holds → ReadsOn device a p c r
@@ -250,7 +252,7 @@ module _ {D : Type 0} (device : Disk D) where
   pub held_at : (a b c : FramesValue D) (p q r : Pass) (x : Sheet) (page : ℕ) → x.page ≡ page
       → AddsNothing device a b → KeepsWork p q → q.pin ≡ p.pin → b.pins ≡ a.pins → KeepsOthers a b (page ∷ [])
       → Lies a page x.content → IsPassOf c r → IsHolding device c r [] → HasAdded device b c []
-      → PassRises q r → (r.pin ≡ q.pin) × (r.room ≡ q.room) × (r.xid ≡ q.xid) → RunsOn device b c
+      → PassRises q r → (r.pin ≡ q.pin) × (r.room ≡ q.room) × (r.xid ≡ q.xid) → r.work ≡ q.work → RunsOn device b c
       → KeepsState b c → Lies c x.page x.content → KeepsOthers b c (x.page ∷ [])
       → IsCalm device b.journal c.journal → BeginsOn device b.journal c.journal → c.pins ≡ b.pins
       → q.holds ≤ suc p.holds → r.holds ≡ q.holds → ReadsOn device a p c r
@@ -263,17 +265,17 @@ module _ {D : Type 0} (device : Disk D) where
   pub held_and_read : (a b m c : FramesValue D) (p q n r : Pass) (x : Sheet) (page : ℕ) → x.page ≡ page
       → AddsNothing device a b → KeepsWork p q → q.pin ≡ p.pin → b.pins ≡ a.pins → KeepsOthers a b (page ∷ [])
       → Lies a page x.content → LooksOn device b q m n → IsPassOf c r → IsHolding device c r [] → HasAdded device m c []
-      → PassRises n r → (r.pin ≡ n.pin) × (r.room ≡ n.room) × (r.xid ≡ n.xid) → RunsOn device m c
+      → PassRises n r → (r.pin ≡ n.pin) × (r.room ≡ n.room) × (r.xid ≡ n.xid) → r.work ≡ n.work → RunsOn device m c
       → KeepsState m c → Lies c x.page x.content → KeepsOthers m c (x.page ∷ [])
       → IsCalm device m.journal c.journal → BeginsOn device m.journal c.journal → c.pins ≡ m.pins
       → q.holds ≤ suc p.holds → r.holds ≡ n.holds → ReadsOn device a p c r
-  held_and_read a b m c p q n r x page named adds works pin pins taken was l of holding added rises same runs state lies
-      others calm begins pins' holds =
+  held_and_read a b m c p q n r x page named adds works pin pins taken was l of holding added rises same right
+      runs state lies others calm begins pins' holds =
       held_back_by a m c p n r x (adds_then adds l.adds) (works_then p q n works l.keeps) (l.pin ∙ pin) (l.pins ∙ pins)
       (λ k d off lies. l.lying k d (subst (λ (h : Home). LiesAs h d)
       (sym (subst (λ (z : ℕ). KeepsOthers a b (z ∷ [])) (sym named) taken k (only k x.page off))) lies))
-      (subst (λ (k : ℕ). Lies a k x.content) (sym named) was) of holding added rises same runs state lies others calm
-      begins pins' (omega (arith, l.holds, holds))
+      (subst (λ (k : ℕ). Lies a k x.content) (sym named) was) of holding added rises same right runs state lies others
+      calm begins pins' (omega (arith, l.holds, holds))
 
   -- a hold that isn't refused meets no fault
   pub held_calm : {T : Type 0} (i j : JournalValue D) (r : Result T FrameError) (x : T) → r ≡ Ok x

@@ -36,10 +36,11 @@ pub data AddsNothing {D : Type 0} (device : Disk D) (old : FramesValue D) : Fram
   then : {mid new : FramesValue D} → AddsNothing device old mid → AddsOnce device mid new
       → AddsNothing device old new
 
--- The pass has the same transaction and room, and what it has seen does not fall.
+-- The pass has the same transaction, room and right of maintenance, and what it has seen does not fall.
 pub record KeepsWork (old new : Pass) : Type 0 where
   pub xid : new.xid ≡ old.xid
   pub room : new.room ≡ old.room
+  pub work : new.work ≡ old.work
   pub rises : PassRises old new
 
 -- What lay in memory lies there still.

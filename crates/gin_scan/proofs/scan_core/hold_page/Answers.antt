@@ -36,15 +36,15 @@ returns-clause-adds g c =
 
 pub returns-clause-keeps : goal.returns-clause-keeps
 returns-clause-keeps g c =
-    let e = c.hold.ensures in keeps_work _ _ e.same.2 e.same.1 e.rises
+    let e = c.hold.ensures in keeps_work _ _ e.same.2 e.same.1 e.right.0 e.rises
 
 pub returns-clause-refused : goal.returns-clause-refused
 returns-clause-refused g c =
     let e = c.hold.ensures in
     hold_refused g.D.Disk c.args.frames.now _ c.args.pass.now _ c.hold.result e.pass c.requires.none
     (adds_once g.D.Disk _ _ (hold_once g.D.Disk _ _ c.hold.result e.added e.state e.runs_on e.begins e.cause e.pins))
-    (keeps_work _ _ e.same.2 e.same.1 e.rises) e.same.0 e.pins e.held e.unmoved (one_more g.D.Disk c.args.pass.now.holds
-    _ c.hold.result e.holds e.holds_still)
+    (keeps_work _ _ e.same.2 e.same.1 e.right.0 e.rises) e.same.0 e.pins e.held e.unmoved (one_more g.D.Disk
+    c.args.pass.now.holds _ c.hold.result e.holds e.holds_still)
 
 pub returns-clause-cause : goal.returns-clause-cause
 returns-clause-cause g c =

@@ -59,7 +59,7 @@ returns-in_err-read-clause-is_step g c =
     c.args.pass.now c.hold_page.new.pass c.read_page-read.new.pass c.release.new.pass c.in_ok-held.held n k.number
     h.adds
     h.keeps h.pin h.pins k.others k.lies l e.pass (e.holding [] (l.holding (c.in_ok-held.held ∷ []) k.holding)) e.added
-    e.rises e.same e.runs_on e.state e.lies e.others e.calm e.begins e.pins h.holds e.holds in
+    e.rises e.same e.right.0 e.runs_on e.state e.lies e.others e.calm e.begins e.pins h.holds e.holds in
     fails g.D.Disk _ c.args.query.now f c.args.pass.now s c.release.new.self c.release.new.pass _
     c.from_residual-in_err-read.result x p.0 p.1 p.2
     (page_calm c.hold_page.new.frames HasSlots n c.page-page.result.now x bad) c.read_page-read.ensures.took
@@ -95,7 +95,7 @@ returns-clause-is_step g c =
     c.args.pass.now c.hold_page.new.pass c.read_page-read.new.pass c.release.new.pass c.in_ok-held.held n k.number
     h.adds
     h.keeps h.pin h.pins k.others k.lies l e.pass (e.holding [] (l.holding (c.in_ok-held.held ∷ []) k.holding)) e.added
-    e.rises e.same e.runs_on e.state e.lies e.others e.calm e.begins e.pins h.holds e.holds in
+    e.rises e.same e.right.0 e.runs_on e.state e.lies e.others e.calm e.begins e.pins h.holds e.holds in
     let held = held_calm g.D.Disk _ _ c.hold_page.result c.in_ok-held.held c.in_ok-held.was h.fault in
     let one : c.one_more-self.result ≤ suc s.pages_read = omega (
       arith,

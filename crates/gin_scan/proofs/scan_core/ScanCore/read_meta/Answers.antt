@@ -46,8 +46,8 @@ returns-in_err-first g c =
     let why = other_page f HasMeta 0 c.page.result.now x c.page.ensures.is_page there (inr bad) in
     let reads = held_at g.D.Disk f c.hold_page.new.frames c.release.new.self c.args.pass.now c.hold_page.new.pass
     c.release.new.pass c.in_ok-held.held 0 k.number h.adds h.keeps h.pin h.pins k.others k.lies e.pass
-    (e.holding [] k.holding) e.added e.rises e.same e.runs_on e.state e.lies e.others e.calm e.begins e.pins h.holds
-    e.holds in
+    (e.holding [] k.holding) e.added e.rises e.same e.right.0 e.runs_on e.state e.lies e.others e.calm e.begins e.pins
+    h.holds e.holds in
     let calm =
     calm_then g.D.Disk _ _ _ (held_calm g.D.Disk _ _ c.hold_page.result c.in_ok-held.held c.in_ok-held.was h.fault)
     e.calm in record {
@@ -73,8 +73,8 @@ returns g c =
     let one = one_page s.pages_read c.one_more-self.result c.one_more-self.ensures in
     let reads = held_at g.D.Disk f c.hold_page.new.frames c.release.new.self c.args.pass.now c.hold_page.new.pass
     c.release.new.pass c.in_ok-held.held 0 k.number h.adds h.keeps h.pin h.pins k.others k.lies e.pass
-    (e.holding [] k.holding) e.added e.rises e.same e.runs_on e.state e.lies e.others e.calm e.begins e.pins h.holds
-    e.holds in
+    (e.holding [] k.holding) e.added e.rises e.same e.right.0 e.runs_on e.state e.lies e.others e.calm e.begins e.pins
+    h.holds e.holds in
     let calm =
     calm_then g.D.Disk _ _ _ (held_calm g.D.Disk _ _ c.hold_page.result c.in_ok-held.held c.in_ok-held.was h.fault)
     e.calm in

@@ -48,8 +48,8 @@ returns-in_err-right g c =
     let why = other_page f HasRows c.args.page c.page.result.now x c.page.ensures.is_page there bad in
     let reads = held_at g.D.Disk f c.hold_page.new.frames c.release.new.self c.args.pass.now c.hold_page.new.pass
     c.release.new.pass c.in_ok-held.held c.args.page k.number h.adds h.keeps h.pin h.pins k.others k.lies e.pass
-    (e.holding [] k.holding) e.added e.rises e.same e.runs_on e.state e.lies e.others e.calm e.begins e.pins h.holds
-    e.holds in
+    (e.holding [] k.holding) e.added e.rises e.same e.right.0 e.runs_on e.state e.lies e.others e.calm e.begins e.pins
+    h.holds e.holds in
     let calm =
     calm_then g.D.Disk _ _ _ (held_calm g.D.Disk _ _ c.hold_page.result c.in_ok-held.held c.in_ok-held.was h.fault)
     e.calm in record {
@@ -89,8 +89,8 @@ returns g c =
     }) w.rest in
     let reads = held_at g.D.Disk f c.hold_page.new.frames c.release.new.self c.args.pass.now c.hold_page.new.pass
     c.release.new.pass c.in_ok-held.held c.args.page k.number h.adds h.keeps h.pin h.pins k.others k.lies e.pass
-    (e.holding [] k.holding) e.added e.rises e.same e.runs_on e.state e.lies e.others e.calm e.begins e.pins h.holds
-    e.holds in
+    (e.holding [] k.holding) e.added e.rises e.same e.right.0 e.runs_on e.state e.lies e.others e.calm e.begins e.pins
+    h.holds e.holds in
     let calm =
     calm_then g.D.Disk _ _ _ (held_calm g.D.Disk _ _ c.hold_page.result c.in_ok-held.held c.in_ok-held.was h.fault)
     e.calm in
