@@ -1,0 +1,66 @@
+pub mod StaysOn
+pub mod Histories
+pub mod Logs
+mod SeenOn
+mod DeadSlots
+mod FoundDead
+mod StillFound
+mod Begun
+mod Taken
+mod HeapCauses
+mod ReadHeap
+mod RowsAhead
+mod WalkStill
+mod WalkRead
+mod WalkCode
+mod ListCauses
+mod EntryPages
+mod TreesStay
+mod Kept
+mod SweepCauses
+mod Swept
+mod Downs
+mod GoneDown
+mod Passing
+mod Removals
+mod Groups
+mod LoggedOn
+mod OutOn
+mod FreeingOn
+mod FreeSteps
+mod FreeCauses
+mod NeverBad
+pub mod InTurn
+mod Endings
+mod Freed
+mod FreeWorks
+mod WentOn
+mod LeafWays
+pub mod Rooms
+mod Roots
+mod LeafRuns
+mod TreeRuns
+mod Places
+mod NextHeld
+mod DownSteps
+mod Removed
+mod PostsNext
+mod SweptAfter
+mod NeverAround
+mod DeleteSteps
+mod LeafGone
+mod Deleted
+mod ParentSteps
+mod LeftLists
+mod LeafNext
+mod SweptOn
+mod Remains
+mod Cleaned
+mod LeftParent
+mod DeleteMade
+mod AroundHeld
+mod ParentHeld
+mod NotHeld
+mod PostsGone
+mod LeafSwept
+mod SweepEnds

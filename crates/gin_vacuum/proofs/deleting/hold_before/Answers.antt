@@ -1,0 +1,45 @@
+use Rattle.std.proofs.Common.{◌≡◌, ◌∙◌, [], refl, sym, ap, subst, Err}
+use Rattle.std.proofs.lemmas.Result.{err_from_is_err_and}
+use Rattle.std.proofs.lemmas.Bool.{false≢true}
+use Rattle.buffer_frames.specs.Frames.{Lies}
+use Rattle.gin_place.specs.Causes.{Finds, CannotUse}
+use Rattle.gin_place.specs.declared.error.PlaceError.TheVariants.{BadPage}
+use Rattle.gin_place.proofs.Carrying.{reads_in_turn}
+use Rattle.gin_place.proofs.Causing.{at_exit, finds_now, weaker}
+use Rattle.gin_vacuum.specs.Stepping.{IsCause, LeadsTo}
+use Rattle.gin_vacuum.specs.Inner.Deleting.{IsBadAround}
+use Rattle.gin_vacuum.proofs.SweepCauses.{hold_cause}
+use Rattle.gin_vacuum.proofs.deleting.hold_before.Goals as goal
+
+pub returns-in_err-before-clause-cause : goal.returns-in_err-before-clause-cause
+returns-in_err-before-clause-cause g c =
+    let r = err_from_is_err_and c.from_residual.result c.from_residual.ensures.1 in
+    let w = c.in_err-before.field-0.0 in
+    let e = c.args.empty in
+    let f = c.args.frames.now in
+    let l = c.hold_page.new.frames in
+    at_exit (λ x. Finds g.D.Disk f c.args.pass.now (IsCause g.D.Disk (IsBadAround g.D.Disk e) l x))
+    c.from_residual.result r.0 w r.1 r.2
+    (finds_now g.D.Disk f c.args.pass.now (IsCause g.D.Disk (IsBadAround g.D.Disk e) l w) c.requires.pass
+    (hold_cause g.D.Disk (IsBadAround g.D.Disk e) e.before l w f c.args.pass.now
+    (λ cannot.
+    let bad = weaker f (LeadsTo e.page) e.before cannot in
+    IsBadAround.before refl bad (c.requires.lawful c.if-empty-eq0.false bad)) c.in_err-before.ensures.cause))
+
+pub returns-then-not-leads_to-clause-reads : goal.returns-then-not-leads_to-clause-reads
+returns-then-not-leads_to-clause-reads g c =
+    reads_in_turn g.D.Disk c.args.frames.now c.hold_page.new.frames c.release.new.frames c.args.pass.now
+    c.hold_page.new.pass c.release.new.pass c.hold_page.ensures.reads c.release.ensures.reads
+
+pub returns-then-not-leads_to-clause-cause : goal.returns-then-not-leads_to-clause-cause
+returns-then-not-leads_to-clause-cause g c =
+    let e = c.args.empty in
+    let f = c.args.frames.now in
+    let off : LeadsTo e.page c.page.result.now → ⊥ =
+    λ is. false≢true (sym c.if-not-leads_to.true ∙ c.leads_to.ensures.1 is) in
+    let lies = subst (Lies f e.before) (sym c.page.ensures.value) c.in_ok-before.ensures.lies in
+    let cannot : CannotUse f (LeadsTo e.page) e.before =
+    CannotUse.other c.page.result.now c.page.ensures.is_page lies off in
+    finds_now g.D.Disk f c.args.pass.now
+    (IsCause g.D.Disk (IsBadAround g.D.Disk e) c.release.new.frames (BadPage e.before)) c.requires.pass
+    (IsBadAround.before refl cannot (c.requires.lawful c.if-empty-eq0.false cannot))

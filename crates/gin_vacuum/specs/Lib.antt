@@ -1,0 +1,10 @@
+pub mod Vacuum
+pub mod Causes
+pub mod Finding
+pub mod Unlinked
+pub mod Freeing
+pub mod Going
+pub mod Ending
+pub mod Sweeping
+pub mod Stepping
+pub mod Inner
