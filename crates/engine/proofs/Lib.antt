@@ -51,3 +51,10 @@ mod PendingMoved
 pub mod Cleanups
 mod Sweeping
 mod Tidying
+mod Since
+mod DeadLogs
+mod Stopped
+mod DeadKept
+mod Vacuumed
+mod Maintained
+mod VacuumSteps

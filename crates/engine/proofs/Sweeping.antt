@@ -2,7 +2,7 @@
 use Rattle.std.proofs.Common.{◌≡◌, ◌≤◌, ◌<◌, ℕ, Bool, false, List, [], ◌++◌, length, refl, sym, ap, subst}
 use Rattle.std.proofs.Common.{◌∙◌}
 use Rattle.std.proofs.Common.{arith}
-use Rattle.std.specs.Prelude.{Option, Some, None, Result, Ok, Err, OnOk}
+use Rattle.std.specs.Prelude.{Option, Some, None, Result, Ok, Err, OnOk, IfErr}
 use Rattle.disk_trait.specs.declared.device.Disk.{Ghosts as Disk}
 use Rattle.wal.specs.Waiting.{down_of}
 use Rattle.page_types.specs.Numbers.{page_limit}
@@ -20,7 +20,6 @@ use Rattle.buffer_frames.proofs.HistoryParts.{legal_before}
 use Rattle.gin_place.specs.Causes.{Finds, NoBadPage}
 use Rattle.gin_place.specs.Faults as place
 use Rattle.gin_place.specs.Faults.{FaultBy}
-use Rattle.gin_place.specs.Running.{StoreGoesOn}
 use Rattle.gin_place.specs.declared.error.PlaceError.{PlaceError}
 use Rattle.gin_place.specs.declared.error.PlaceError.TheVariants.{StoreFull, LogFull, DiskFault, Down, BadPage}
 use Rattle.gin_place.specs.declared.error.PlaceError.TheVariants.{OutOfMemory}
@@ -28,19 +27,26 @@ use Rattle.gin_place.proofs.Carrying.{cut_cut}
 use Rattle.gin_place.proofs.Faults.{fine_then}
 use Rattle.gin_cleanup.specs.Cleaning.{IsStillIn, SaysWhether}
 use Rattle.gin_cleanup.specs.Going.{IsCause}
+use Rattle.gin_vacuum.specs.Ending as vacuum
 use Rattle.engine.specs.Answers.{MeetsNoBadPage}
 use Rattle.engine.specs.Cleaning.{Comes, AreMoved, CannotClean}
 use Rattle.engine.specs.Db.{DbValue, state_of, IsUp}
 use Rattle.engine.specs.Going.{Goes, MetNoFault, FaultIsTold}
-use Rattle.engine.specs.Inner.Cleaned.{CleansThrough, CleansUp, AreGoneSince, EndsBy, NeverBad}
+use Rattle.engine.specs.Inner.Cleaned.{IndexGoesOn, CleansThrough, WorksUp, CleansUp, AreGoneSince, EndsBy, NeverBad}
 use Rattle.engine.specs.Inner.Refusals.{place_refusal}
 use Rattle.engine.specs.declared.error.DbError.{DbError}
-use Rattle.engine.proofs.Cleanups.{up_in_turn, up_by_none}
+use Rattle.engine.proofs.Cleanups.{up_in_turn, up_by_none, added_by_none}
 use Rattle.engine.proofs.PendingMoved.{moved_all}
 
 pub on_ok : {T E : Type 0} {A B : Type 0} (r : Result T E) → (A → B) → OnOk r A → OnOk r B
 on_ok (Ok x) f a = f a
 on_ok (Err e) f a = tt
+
+pub if_err_both : {T E : Type 0} {A B C : E → Type 0} (r : Result T E) → ((e : E) → A e → B e → C e) → IfErr r A
+    → IfErr r B
+    → IfErr r C
+if_err_both (Ok x) f a b = tt
+if_err_both (Err e) f a b = f e a b
 
 module _ {D : Type 0} (device : Disk D) where
   -- ── what is gone ──
@@ -85,7 +91,7 @@ module _ {D : Type 0} (device : Disk D) where
         frames = h;
         pass = u;
         kinds = ks;
-        cleaning = through.cleaning;
+        cleaning = through.are;
         logs = λ R s.
             let on = through.added.on R s in
             let there = works.added.on on.0 on.1 in
@@ -168,8 +174,17 @@ module _ {D : Type 0} (device : Disk D) where
   never_by f DiskFault none = tt
   never_by f OutOfMemory none = tt
 
+  -- as other crates say it
+  pub never_as : (f : FramesValue D) (e : PlaceError) → vacuum.NeverBad device f e → NeverBad device f e
+  never_as f (BadPage p) none = none
+  never_as f StoreFull none = tt
+  never_as f LogFull none = tt
+  never_as f (Down n) none = tt
+  never_as f DiskFault none = tt
+  never_as f OutOfMemory none = tt
+
   -- after others that met no fault
-  pub never_before : (f m : FramesValue D) (ks : List ℕ) (e : PlaceError) → StoreGoesOn device f m ks
+  pub never_before : (f m : FramesValue D) (ks : List ℕ) (e : PlaceError) → IndexGoesOn device f m ks
       → place.MetNoFault device f m → NeverBad device m e → NeverBad device f e
   never_before f m ks (BadPage p) goes met never = λ t up numbers found R H b s.
       let n = goes.begins t found R H b in
@@ -251,14 +266,14 @@ module _ {D : Type 0} (device : Disk D) where
       → 0 < (state_of a).records → AreGoneSince device (state_of a).records b.frames → AreMoved device a b
   moved_by_end pairs shifts a b ks c some gone = record {
     gone = gone;
-    placed = moved_all pairs shifts device a.frames b.frames ks c.added c.cleaning some gone;
+    placed = moved_all pairs shifts device a.frames b.frames ks c.added c.are some gone;
   }
 
   -- ── in a snapshot of its own ──
 
-  module _ (old m s b : DbValue D) (ks : List ℕ) (begins : Goes device old m []) (ends : Goes device s b [])
-      (clean : CleansUp device m s ks) where
-    pub sweep_path : CleansUp device old b (ks ++ [])
+  module _ {Is : ℕ → Type 0} (old m s b : DbValue D) (ks : List ℕ) (begins : Goes device old m [])
+      (ends : Goes device s b []) (clean : WorksUp device Is m s ks) where
+    pub sweep_path : WorksUp device Is old b (ks ++ [])
     sweep_path =
         up_in_turn device old m b [] (ks ++ []) (up_by_none device old m begins)
         (up_in_turn device m s b ks [] clean (up_by_none device s b ends))
@@ -269,4 +284,4 @@ module _ {D : Type 0} (device : Disk D) where
     sweep_gone n at gone =
         subst (λ (k : ℕ). AreGoneSince device k b.frames) at
         (behind_then s.frames b.frames (λ (R : Log). (w : Row) → IsStillIn n R w → ⊥)
-        (up_by_none device s b ends).added gone)
+        (added_by_none device s b ends) gone)

@@ -28,7 +28,7 @@ use Rattle.engine.specs.Standing.{GoesOn}
 use Rattle.engine.specs.declared.error.DbError.{DbError}
 use Rattle.engine.specs.declared.error.DbError.TheVariants as store
 use Rattle.engine.proofs.Choosing.{lies_one}
-use Rattle.engine.proofs.Cleanups.{up_by_none, up_time}
+use Rattle.engine.proofs.Cleanups.{added_by_none, up_time}
 use Rattle.engine.proofs.Growing.{runs_of, runs_in_turn, begins_of}
 use Rattle.engine.proofs.Paths.{time_of, path_state, pending_of, fault_in_turn}
 use Rattle.engine.proofs.Sweeping.{comes_before}
@@ -125,11 +125,11 @@ module _ {D : Type 0} (device : Disk D) (a m b : DbValue D) (path : Goes device 
       let z : None ≡ Some f = sym (met.down ∙ up) ∙ why.0 in absurd (let y : ⊥ = cc in y)
   clean_before store.DiskFault why = fault_in_turn device (time_of device path) met why
   clean_before store.StoreFull why =
-      (up, comes_before device a.frames m.frames b.frames _ (up_by_none device a m path).added why.1)
+      (up, comes_before device a.frames m.frames b.frames _ (added_by_none device a m path) why.1)
   clean_before store.LogFull why =
-      (up, comes_before device a.frames m.frames b.frames _ (up_by_none device a m path).added why.1)
+      (up, comes_before device a.frames m.frames b.frames _ (added_by_none device a m path) why.1)
   clean_before (store.BadPage p) why =
-      (up, comes_before device a.frames m.frames b.frames _ (up_by_none device a m path).added why.1)
+      (up, comes_before device a.frames m.frames b.frames _ (added_by_none device a m path) why.1)
   clean_before store.OutOfMemory why = up
   clean_before store.NoDocument why = absurd why
   clean_before (store.Conflict x) why = absurd why

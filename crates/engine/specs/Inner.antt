@@ -8,3 +8,4 @@ pub mod Plain
 pub mod Refusals
 pub mod Doing
 pub mod Cleaned
+pub mod Vacuumed

@@ -24,3 +24,4 @@ pub use Rattle.ts_base.specs.Vectors
 pub use Rattle.ts_query.specs.Queries
 pub use Rattle.ts_match.specs.Meaning
 pub mod Cleaning
+pub mod Vacuuming

@@ -1,8 +1,8 @@
 // The cleanup of the index.
-ghost use Rattle.std.specs.Prelude.{◌≡◌, ◌↔◌, ℕ, ◌<◌, ◌≤◌, List, [], None, true, OnOk, IfOk, IfErr};
+ghost use Rattle.std.specs.Prelude.{◌≡◌, ◌↔◌, ℕ, ◌<◌, List, [], None, true, OnOk, IfOk, IfErr};
 ghost use Rattle.wal.specs.Waiting.{down_of};
 ghost use Rattle.page_types.specs.declared.page.Body.TheVariants as body;
-ghost use Rattle.buffer_frames.specs.Passes.{IsPassOf, IsRightFree};
+ghost use Rattle.buffer_frames.specs.Passes.{IsPassOf};
 ghost use Rattle.gin_place.specs.Placing.{HasRight};
 ghost use Rattle.gin_place.specs.Faults.{MetNoFault, FaultBy};
 ghost use Rattle.gin_cleanup.specs.Cleaning.{IsCleaning};
@@ -12,7 +12,7 @@ use crate::db::Db;
 use crate::error::DbError;
 use crate::list_end::META_PAGE;
 use buffer_frames::{Frames, Pass};
-use core_maintenance::{placing_keeps, shift_keeps};
+use core_maintenance::placing_keeps;
 use disk_trait::Disk;
 use gin_cleanup::Cleanup;
 use gin_place::PlaceError;
@@ -56,7 +56,7 @@ fn step_to_end<D: Disk>(
 }
 
 /// Cleans the list that there is, by a pass that has the right of maintenance.
-fn clean_list<D: Disk>(
+pub(crate) fn clean_list<D: Disk>(
     alloc: Global,
     frames: &mut Frames<D>,
     pass: &mut Pass,
@@ -81,31 +81,6 @@ fn clean_list<D: Disk>(
     step_to_end(alloc, frames, pass, &mut cleanup)
 }
 
-/// Cleans the list that there is, with the right of maintenance, which nobody has before and after.
-fn clean<D: Disk>(alloc: Global, frames: &mut Frames<D>, pass: &mut Pass) -> Result<(), PlaceError>
-    requires up { down_of frames.old.journal.wal ≡ None }
-    requires pass { IsPassOf frames.old pass.old }
-    requires all { pass.old.seen ≡ frames.old.journal.state.records }
-    requires none { pass.old.held ≡ 0 }
-    requires nobody { IsRightFree frames.old }
-    ensures through { (kinds : List ℕ)
-        × CleansThrough D.Disk frames.old pass.old frames.new pass.new kinds }
-    ensures nobody { IsRightFree frames.new }
-    ensures none_held { pass.new.held ≡ 0 }
-    ensures gone { OnOk result (AreGoneSince D.Disk pass.old.seen frames.new) }
-    ensures fine { OnOk result (MetNoFault D.Disk frames.old frames.new) }
-
-    // The refusals: what was logged stays.
-    ensures fault { IfErr result (λ e. FaultBy D.Disk frames.old frames.new e) }
-    ensures cause { IfErr result (λ e. EndsBy D.Disk frames.old frames.new e) }
-    ensures lawful { IfErr result (λ e. NeverBad D.Disk frames.old e) }
-{
-    frames.claim_work(pass);
-    let cleaned = clean_list(alloc, frames, pass);
-    frames.give_back_work(pass);
-    cleaned
-}
-
 /// Whether the metapage names more pages of the pending list than these.
 fn names_more(meta: &Page, most: u32) -> bool
     ensures { (result ≡ true) ↔ ((first last count : ℕ)
@@ -127,24 +102,6 @@ impl<D: Disk> Db<D> {
     ghost use Rattle.engine.specs.Inner.Cleaned.{CleansUp};
     ghost use Rattle.engine.specs.Inner.Parts.{KeepsRoom};
 
-    /// Cleans the list that there is, in a snapshot of its own.
-    fn cleanup_now(&mut self, pass: &mut Pass) -> Result<(), DbError>
-        requires session { IsSession self.old pass.old }
-        ensures session { IsSession self.new pass.new }
-        ensures path { (kinds : List ℕ) × CleansUp D.Disk self.old self.new kinds }
-        ensures cleaned { HasCleaned D.Disk self.old self.new result }
-        ensures snapshot { TakesSnapshot self.old self.new pass.old pass.new }
-        ensures fault { FaultIsTold D.Disk self.old self.new result }
-        ensures lawful { IfErr result (λ e. MeetsNoBadPage D.Disk self.old e) }
-    {
-        placing_keeps();
-        shift_keeps();
-        self.frames.pin(pass)?;
-        let cleaned = clean(self.alloc, &mut self.frames, pass);
-        self.frames.unpin(pass);
-        Ok(cleaned?)
-    }
-
     /// Moves the rows of the pending list into the trees of the index. What is refused keeps the steps that it made.
     pub fn cleanup(&mut self, pass: &mut Pass) -> Result<(), DbError>
         requires session { IsSession self.old pass.old }
@@ -158,7 +115,7 @@ impl<D: Disk> Db<D> {
         ensures lawful { IfErr result (λ e. MeetsNoBadPage D.Disk self.old e) }
     {
         placing_keeps();
-        let cleaned = self.cleanup_now(pass);
+        let cleaned = self.maintained(pass, false);
         self.frames.keeps_history();
         cleaned
     }
@@ -194,7 +151,7 @@ impl<D: Disk> Db<D> {
         if !long {
             return Ok(());
         }
-        self.cleanup_now(pass)
+        self.maintained(pass, false)
     }
 
     /// A document of this vector, in place of that of a name, where one is given: its name. After its commit

@@ -12,10 +12,12 @@ mod gate;
 mod indexing;
 mod laws;
 mod list_end;
+mod maintaining;
 mod opening;
 mod pages;
 mod reading;
 mod transaction;
+mod vacuuming;
 
 pub use buffer_frames::{OpenFault, Pass, no_store_is_none, opens_to_one};
 pub use commit_names::CommitNames;

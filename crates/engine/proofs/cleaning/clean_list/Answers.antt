@@ -7,7 +7,7 @@ use Rattle.gin_place.proofs.Carrying.{reads_still, same_added, right_on}
 use Rattle.gin_place.proofs.Causing.{at_exit}
 use Rattle.gin_place.proofs.Faults.{fine_then, told_then}
 use Rattle.engine.specs.Inner.Cleaned.{EndsBy, NeverBad}
-use Rattle.engine.proofs.Cleanups.{through_reads, through_in_turn}
+use Rattle.engine.proofs.Cleanups.{goes_of, through_reads, through_in_turn}
 use Rattle.engine.proofs.ReadSteps.{if_err}
 use Rattle.engine.proofs.Sweeping.{on_ok, gone_earlier, ends_by, ends_before, never_by, never_before}
 use Rattle.engine.proofs.cleaning.clean_list.Goals as goal
@@ -104,6 +104,7 @@ returns-in_err-cleanup-clause-lawful g c =
 pub returns-clause-lawful : goal.returns-clause-lawful
 returns-clause-lawful g c =
     if_err c.step_to_end.result
-    (λ e. never_before g.D.Disk c.args.frames.now c.begin.new.frames [] e c.begin.ensures.reads.works.goes
+    (λ e. never_before g.D.Disk c.args.frames.now c.begin.new.frames [] e
+    (goes_of g.D.Disk c.args.frames.now c.begin.new.frames [] c.begin.ensures.reads.works.goes)
     c.in_ok-cleanup.ensures.fine)
     c.step_to_end.ensures.lawful

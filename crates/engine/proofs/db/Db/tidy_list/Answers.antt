@@ -4,7 +4,7 @@ use Rattle.std.specs.Prelude.{Result, Err, ⊤}
 use Rattle.std.proofs.lemmas.Result.{err_from_is_err_and}
 use Rattle.engine.specs.Cleaning.{ByItself, IsListLong}
 use Rattle.engine.specs.declared.error.DbError.{DbError}
-use Rattle.engine.proofs.Cleanups.{up_by_none, up_in_turn}
+use Rattle.engine.proofs.Cleanups.{up_by_none, up_as, up_in_turn}
 use Rattle.engine.proofs.Paths.{time_of, told_in_turn}
 use Rattle.engine.proofs.Tidying.{cleaned_before}
 use Rattle.engine.proofs.db.Db.tidy_list.Goals as goal
@@ -37,10 +37,11 @@ returns-then-not-long-clause-by_itself g c =
 pub returns-clause-path : goal.returns-clause-path
 returns-clause-path g c =
     let e = c.in_ok-long.ensures in
-    let n = c.cleanup_now.ensures in (
+    let n = c.maintained.ensures in (
       [] ++ n.path.0,
-      up_in_turn g.D.Disk c.args.self.now c.is_list_long.new.self c.cleanup_now.new.self [] n.path.0
-          (up_by_none g.D.Disk c.args.self.now c.is_list_long.new.self e.goes) n.path.1,
+      up_in_turn g.D.Disk c.args.self.now c.is_list_long.new.self c.maintained.new.self [] n.path.0
+          (up_by_none g.D.Disk c.args.self.now c.is_list_long.new.self e.goes)
+          (up_as g.D.Disk c.is_list_long.new.self c.maintained.new.self n.path.0 n.path.1 n.path.2),
     )
 
 pub returns-clause-by_itself : goal.returns-clause-by_itself
@@ -48,17 +49,17 @@ returns-clause-by_itself g c =
     let e = c.in_ok-long.ensures in
     let long : c.in_ok-long.long ≡ true = search (rules, c.if-not-long.false) in
     ByItself.cleaned (e.long.0 long)
-    (cleaned_before g.D.Disk c.args.self.now c.is_list_long.new.self c.cleanup_now.new.self e.goes c.requires.up e.fault
-    c.cleanup_now.result c.cleanup_now.ensures.cleaned)
+    (cleaned_before g.D.Disk c.args.self.now c.is_list_long.new.self c.maintained.new.self e.goes c.requires.up e.fault
+    c.maintained.result c.maintained.ensures.answered)
 
 pub returns-clause-keeps : goal.returns-clause-keeps
 returns-clause-keeps g c =
     let e = c.in_ok-long.ensures in
-    let t = c.cleanup_now.ensures.snapshot in
+    let t = c.maintained.ensures.snapshot in
     record { room = t.room ∙ e.keeps.room; shown = omega (arith, e.keeps.shown, t.then.0) }
 
 pub returns-clause-fault : goal.returns-clause-fault
 returns-clause-fault g c =
     let e = c.in_ok-long.ensures in
-    told_in_turn g.D.Disk c.args.self.now c.is_list_long.new.self c.cleanup_now.new.self c.cleanup_now.result
-    (time_of g.D.Disk e.goes) e.fault c.cleanup_now.ensures.fault
+    told_in_turn g.D.Disk c.args.self.now c.is_list_long.new.self c.maintained.new.self c.maintained.result
+    (time_of g.D.Disk e.goes) e.fault c.maintained.ensures.fault
