@@ -2,7 +2,7 @@
 use Rattle.std.proofs.Common.{◌≡◌, ◌⊎◌, inl, inr, ℕ, ◌+◌, ◌≤◌, [], ◌∷◌, ◌++◌, length, length-append, arith, refl}
 use Rattle.std.proofs.Common.{sym, ◌∙◌, ap, subst, map}
 use Rattle.std.proofs.lemmas.List.{append-nil}
-use Rattle.std.specs.Prelude.{Result, Ok, Err, Vec, IfErr, suc}
+use Rattle.std.specs.Prelude.{Result, Ok, Err, Vec, IfErr, suc, None}
 use Rattle.std.specs.declared.alloc.Global.{Global}
 use Rattle.disk_trait.specs.declared.device.Disk.{Ghosts as Disk}
 use Rattle.ts_base.specs.Vectors.{Vector}
@@ -16,15 +16,16 @@ use Rattle.engine.specs.Going.{FaultIsTold, MetFault, MetNoFault}
 use Rattle.engine.specs.Work.{Work, inserting, updating, deleting, commit_of}
 use Rattle.engine.specs.Answers.{HasCommitted, HasRefused, HasDeleted, HasFound, HasListed}
 use Rattle.engine.specs.Cleaning.{HasMoved, HasCleaned, Tidies, StoresThenTidies}
+use Rattle.engine.specs.Vacuuming.{HasWorked, HasVacuumed}
 use Rattle.engine.specs.Answers.{IsRefused}
 use Rattle.engine.specs.Answers.{Refuses, IsLawfulRefusal, MeetsNoBadPage, OnlyReads, Pass}
 use Rattle.engine.specs.declared.commit_names.CommitNames.{CommitNames}
 use Rattle.engine.specs.declared.error.DbError.{DbError}
 use Rattle.engine.specs.declared.error.DbError.TheVariants as errors
 use Rattle.shell_script.specs.Grammar.{Statement, insert, update, delete, search as finding, clean_up, show, ask}
-use Rattle.shell_script.specs.Grammar.{parse, list_commits, define, invalid, Expr, QuerySource}
+use Rattle.shell_script.specs.Grammar.{vacuum, parse, list_commits, define, invalid, Expr, QuerySource}
 use Rattle.shell_script.specs.Docs.{Doc}
-use Rattle.shell_run.specs.Run.{Note, Counts, Reply, stored, removed, lists, shows_commits, refused}
+use Rattle.shell_run.specs.Run.{Note, Counts, Reply, stored, removed, maintained, lists, shows_commits, refused}
 use Rattle.shell_run.specs.Run.{memory, down}
 use Rattle.shell_run.specs.Run.{device as device_fault, no_statement, IsAnswered, IsInsertion, IsReplacement}
 use Rattle.shell_run.specs.Run.{IsDeletion}
@@ -37,9 +38,9 @@ use Rattle.shell_run.specs.Inner.Answering.{HasAnswered}
 use Rattle.shell_run.proofs.OfTexts.{expr_text, query_text_reply, shown_text, queried_text, parsed_text, defined_text}
 use Rattle.shell_run.proofs.OfTexts.{line_text}
 use Rattle.shell_run.proofs.Moving.{Moves, HasNote, Tells, own_is, none_is, work_up, read_up, clean_up as up_or_down}
-use Rattle.shell_run.proofs.Moving.{refuses_of, IsFaultOf, still_reaches, was_up, rested_at, rests_moves, err_moves}
+use Rattle.shell_run.proofs.Moving.{vacuum_up, refuses_of, IsFaultOf, still_reaches, was_up, rested_at, rests_moves, err_moves}
 use Rattle.shell_run.proofs.Rows.{work_row, name_row, name_seen, search_row, search_done, clean_row, list_row}
-use Rattle.shell_run.proofs.Rows.{list_done}
+use Rattle.shell_run.proofs.Rows.{vacuum_row, list_done}
 
 -- a fault of the cleanup that came by itself after a document was stored
 tidied_fault : {D T : Type 0} (device : Disk D) (old mid new : DbValue D) (name : Name) (answer : Result T DbError)
@@ -335,32 +336,53 @@ module _ {D : Type 0} (device : Disk D) (old new : DbValue D) where
       (λ t found H stands low k note e own tells. list_row device old new found H [] k note e own
       tells t stands low refl x h lawful))
 
-  -- ── a cleanup ──
+  -- ── a cleanup, and a vacuum ──
+  maintains : (known : Known) (line : ℕ) (statement : Statement) → IsUp old → MayCall statement maintained
+      → MetNoFault device old new → GoesOn device old new → (device.tells → HasGrown device old new [])
+      → IsCaused device old new known line statement maintained
+      → ((k : Counts) (H : History) (note : Note) → note.commit ≡ None
+      → IsAnswered k H known line statement maintained note)
+      → Moves device old new known line statement maintained
+  maintains known line statement up calls calm on nothing caused answered = record {
+    more = [];
+    one = inl refl;
+    caused = caused;
+    ok_up = λ ok. up;
+    finds = inr up;
+    fell = λ n down. cc;
+    fault = inr (λ x. cc, calm);
+    flushed = λ change. absurd change;
+    rested = λ ok. rested_at device old new [] (calm.down ∙ up) (inr on) nothing
+        (λ t found H s low. still_reaches device old new H on.flushed (λ z. up) (calm.down ∙ up) low);
+    called = inl calls;
+    on = inr on;
+    grown = nothing;
+    reaches = λ t found H s still low. still_reaches device old new H on.flushed (λ z. up) still low;
+    answered = λ t found H s low k note is own tells. answered k (H ++ []) note (none_is H note own);
+  }
+
   cleans : (known : Known) (line : ℕ) (answer : Result (Unit {0}) DbError) → HasMoved device old new
       → HasCleaned device old new answer → FaultIsTold device old new answer
       → IfErr answer (MeetsNoBadPage device old) → GoesOn device old new
       → Moves device old new known line clean_up (cleaned_reply answer)
-  cleans known line (Ok done) moved h told lawful on = record {
-    more = [];
-    one = inl refl;
-    caused = (moved, h);
-    ok_up = λ ok. h.0;
-    finds = inr h.0;
-    fell = λ n down. cc;
-    fault = inr (λ x. cc, told);
-    flushed = λ change. absurd change;
-    rested = λ ok. rested_at device old new [] (told.down ∙ h.0) (inr on) moved.nothing
-        (λ t found H s low. still_reaches device old new H on.flushed (λ up. h.0) (told.down ∙ h.0) low);
-    called = inl tt;
-    on = inr on;
-    grown = moved.nothing;
-    reaches = λ t found H s still low. still_reaches device old new H on.flushed (λ up. h.0) still low;
-    answered = λ t found H s low k note is own tells. none_is H note own;
-  }
+  cleans known line (Ok done) moved h told lawful on =
+      maintains known line clean_up h.0 tt told on moved.nothing (moved, h) (λ k H note n. n)
   cleans known line (Err x) moved h told lawful on =
       err_moves device old new (Unit {0}) known line clean_up x [] tt (λ f. tt)
       (up_or_down device old new x h) told on (inl refl) (moved, (x, refl, h)) moved.nothing
       (λ t found H stands low k note is own tells. clean_row device old new found H [] k note is own
+      tells t stands low refl x h lawful)
+
+  vacuums : (known : Known) (line : ℕ) (answer : Result (Unit {0}) DbError) → HasWorked device old new
+      → HasVacuumed device old new answer → FaultIsTold device old new answer
+      → IfErr answer (MeetsNoBadPage device old) → GoesOn device old new
+      → Moves device old new known line vacuum (cleaned_reply answer)
+  vacuums known line (Ok done) worked h told lawful on =
+      maintains known line vacuum h.0 tt told on worked.nothing (worked, h) (λ k H note n. n)
+  vacuums known line (Err x) worked h told lawful on =
+      err_moves device old new (Unit {0}) known line vacuum x [] tt (λ f. tt)
+      (vacuum_up device old new x h) told on (inl refl) (worked, (x, refl, h)) worked.nothing
+      (λ t found H stands low k note is own tells. vacuum_row device old new found H [] k note is own
       tells t stands low refl x h lawful)
 
   -- ── all statements ──
@@ -395,6 +417,10 @@ module _ {D : Type 0} (device : Disk D) (old new : DbValue D) where
       let c = i.1 in
       subst (λ z. Moves device old new known line clean_up z) (sym c.6)
       (cleans known line c.0 i.0 c.1 c.2 c.3 c.4)
+  moves pass pass' known line vacuum reply i =
+      let c = i.1 in
+      subst (λ z. Moves device old new known line vacuum z) (sym c.6)
+      (vacuums known line c.0 i.0 c.1 c.2 c.3 c.4)
   moves pass pass' known line list_commits reply i =
       let c = i.1 in lists_moves known line c.0 reply c.6 c.1 c.2 c.3 i.0 c.4
   moves pass pass' known line (show e) reply i =

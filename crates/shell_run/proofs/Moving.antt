@@ -12,6 +12,7 @@ use Rattle.engine.specs.Going.{FaultIsTold, MetNoFault}
 use Rattle.engine.specs.Work.{Work}
 use Rattle.engine.specs.Answers.{HasRefused, Refuses, CannotRead}
 use Rattle.engine.specs.Cleaning.{CannotClean}
+use Rattle.engine.specs.Vacuuming.{CannotVacuum}
 use Rattle.engine.specs.declared.error.DbError.{DbError}
 use Rattle.engine.specs.declared.error.DbError.TheVariants as errors
 use Rattle.shell_script.specs.Grammar.{Statement}
@@ -150,6 +151,15 @@ module _ {D : Type 0} (device : Disk D) (old new : DbValue D) where
   clean_up (errors.BadPage p) h = inl (h.0, λ f x. cc)
   clean_up errors.OutOfMemory h = inl (h, λ f x. cc)
   clean_up e h = absurd h
+
+  pub vacuum_up : (e : DbError) → CannotVacuum device old new e → IsUpOrDown e
+  vacuum_up (errors.Down m) h = inr (m, refl, h.0, h.1)
+  vacuum_up errors.DiskFault h = inl (h.up, λ f x. cc)
+  vacuum_up errors.StoreFull h = inl (h.0, λ f x. cc)
+  vacuum_up errors.LogFull h = inl (h.0, λ f x. cc)
+  vacuum_up (errors.BadPage p) h = inl (h.0, λ f x. cc)
+  vacuum_up errors.OutOfMemory h = inl (h, λ f x. cc)
+  vacuum_up e h = absurd h
 
   pub refuses_of : (w : Work) (e : DbError) → HasRefused device old new w e → Refuses device old new w e
   refuses_of w errors.DiskFault h = h.0

@@ -13,6 +13,7 @@ use Rattle.engine.specs.Standing.{StandsFor}
 use Rattle.engine.specs.Work.{Work, deleted_by}
 use Rattle.engine.specs.Answers.{Refuses, CannotRead, IsLawfulRefusal, MeetsNoBadPage}
 use Rattle.engine.specs.Cleaning.{CannotClean}
+use Rattle.engine.specs.Vacuuming.{CannotVacuum}
 use Rattle.engine.specs.declared.commit_names.CommitNames.{CommitNames}
 use Rattle.engine.specs.declared.error.DbError.{DbError}
 use Rattle.engine.specs.declared.error.DbError.TheVariants as errors
@@ -148,6 +149,16 @@ module _ {D : Type 0} (device : Disk D) (old new : DbValue D) (found H more : Hi
   clean_row none errors.OutOfMemory r lawful = no_commit errors.OutOfMemory (inl none) (λ z. cc)
   clean_row none (errors.BadPage p) r lawful = absurd (lawful t found H stands r.0)
   clean_row none x r lawful = absurd r
+
+  pub vacuum_row : more ≡ [] → (x : DbError) → CannotVacuum device old new x → MeetsNoBadPage device old x
+      → IsCleaned k (refused (refusal_for x)) note
+  vacuum_row none (errors.Down f) r lawful = (no_commit (errors.Down f) (inl none) (λ z. cc), tells.since f r.0)
+  vacuum_row none errors.DiskFault r lawful = (none_is H note (subst (λ z. HasNote z H note) none own), tells.met r)
+  vacuum_row none errors.StoreFull r lawful = no_commit errors.StoreFull (inl none) (λ z. cc)
+  vacuum_row none errors.LogFull r lawful = no_commit errors.LogFull (inl none) (λ z. cc)
+  vacuum_row none errors.OutOfMemory r lawful = no_commit errors.OutOfMemory (inl none) (λ z. cc)
+  vacuum_row none (errors.BadPage p) r lawful = absurd (lawful t found H stands r.0)
+  vacuum_row none x r lawful = absurd r
 
   pub list_row : more ≡ [] → (x : DbError) → CannotRead device old new x → MeetsNoBadPage device old x
       → AreListed k (H ++ more) (refused (refusal_for x)) note

@@ -11,7 +11,7 @@ use Rattle.std.proofs.lemmas.Bool.{ne_eqb, eqb-false, eqb-true}
 use Rattle.ts_base.specs.Vectors.{Vector}
 use Rattle.ts_query.specs.Queries.{Query}
 use Rattle.shell_script.specs.Grammar.{Statement, insert, update, delete, search as finding, clean_up, show, ask}
-use Rattle.shell_script.specs.Grammar.{parse, list_commits, define, invalid}
+use Rattle.shell_script.specs.Grammar.{vacuum, parse, list_commits, define, invalid}
 use Rattle.ts_config.specs.Known.{Known}
 use Rattle.engine.specs.Finding.{Commit, History, Name, IsLawful, Begins, docs, IsFound, In}
 use Rattle.ts_match.specs.Meaning.{Holds}
@@ -148,6 +148,7 @@ module _ (k l : Counts) (commits more : History) (note : Note) (g : Grows k l)
   answered_more known line (finding text) reply (inl h) = inl h
   answered_more known line (finding text) reply (inr h) = inr (h.0, h.1, search_more h.0 reply h.2)
   answered_more known line clean_up reply h = clean_more reply h
+  answered_more known line vacuum reply h = clean_more reply h
   answered_more known line list_commits reply h = list_more reply h
   answered_more known line (show e) reply h = h
   answered_more known line (ask text) reply h = h

@@ -11,7 +11,7 @@ use Rattle.shell_script.specs.Replies.{Reply, refused, no_statement}
 use Rattle.shell_script.specs.StatementView.{statement}
 use Rattle.shell_script.specs.declared.statement.Statement.{Statement}
 use Rattle.shell_script.specs.declared.statement.Statement.TheVariants.{Insert, Update, Delete, Search, Cleanup, Show}
-use Rattle.shell_script.specs.declared.statement.Statement.TheVariants.{Ask, Parse, Commits, Invalid}
+use Rattle.shell_script.specs.declared.statement.Statement.TheVariants.{Vacuum, Ask, Parse, Commits, Invalid}
 use Rattle.shell_run.specs.Defining.{IsDefined, Becomes}
 use Rattle.shell_run.specs.Inner.Answering.{HasAnswered}
 use Rattle.shell_run.specs.Inner.Serving.{HasTurned}
@@ -24,6 +24,7 @@ defines_none known (Update d e) r = refl
 defines_none known (Delete d) r = refl
 defines_none known (Search t) r = refl
 defines_none known Cleanup r = refl
+defines_none known Vacuum r = refl
 defines_none known (Show e) r = refl
 defines_none known (Ask t) r = refl
 defines_none known (Parse t) r = refl

@@ -9,9 +9,10 @@ use Rattle.engine.specs.Finding.{Name}
 use Rattle.engine.specs.Work.{Work, inserting, updating, deleting}
 use Rattle.engine.specs.Answers.{Pass, HasCommitted, HasRefused, OnlyReads, CannotRead}
 use Rattle.engine.specs.Cleaning.{HasMoved, AreMoved, CannotClean, Tidies}
+use Rattle.engine.specs.Vacuuming.{HasWorked, AreOut, CannotVacuum}
 use Rattle.engine.specs.declared.error.DbError.{DbError}
 use Rattle.shell_script.specs.Grammar.{Statement, insert, update, delete, search, clean_up, show, ask, parse}
-use Rattle.shell_script.specs.Grammar.{list_commits, define, invalid}
+use Rattle.shell_script.specs.Grammar.{vacuum, list_commits, define, invalid}
 use Rattle.shell_script.specs.Replies.{Reply, stored, removed, maintained, lists, shows_commits, refused}
 use Rattle.shell_script.specs.Replies.{no_statement}
 use Rattle.shell_run.specs.Defining.{IsDefined}
@@ -63,6 +64,11 @@ module _ {D : Type 0} (device : Disk D) (old new : DbValue D) where
   IsMaintained maintained = IsUp old × AreMoved device old new
   IsMaintained reply = ⊥
 
+  -- and to a vacuum: what was pending is moved, and what was dead is gone
+  abbrev pub IsVacuumed : Reply → Type 0
+  IsVacuumed maintained = IsUp old × AreOut device old new
+  IsVacuumed reply = ⊥
+
   -- replies Ok to what only reads
   abbrev pub IsListOfNames : Reply → Type 0
   IsListOfNames (lists names) = IsUp old
@@ -93,6 +99,8 @@ module _ {D : Type 0} (device : Disk D) where
       × IsReplyFor (IsListOfNames device old new) (CannotRead device old new) r)
   IsCaused old new known line clean_up r =
       HasMoved device old new × IsReplyFor (IsMaintained device old new) (CannotClean device old new) r
+  IsCaused old new known line vacuum r =
+      HasWorked device old new × IsReplyFor (IsVacuumed device old new) (CannotVacuum device old new) r
   IsCaused old new known line list_commits r =
       OnlyReads device old new × IsReplyFor (IsListOfCommits device old new) (CannotRead device old new) r
   IsCaused old new known line (show e) r = IsShown known e r × (new ≡ old)

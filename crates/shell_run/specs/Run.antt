@@ -8,7 +8,7 @@ use Rattle.ts_query.specs.Queries.{Query}
 use Rattle.ts_match.specs.Meaning.{Holds}
 use Rattle.ts_config.specs.Known.{Known}
 use Rattle.shell_script.specs.Grammar.{Statement, insert, update, delete, search, clean_up, show, ask, parse}
-use Rattle.shell_script.specs.Grammar.{list_commits, define, invalid}
+use Rattle.shell_script.specs.Grammar.{vacuum, list_commits, define, invalid}
 use Rattle.engine.specs.Finding.{Document, Commit, History, Name, docs, IsFound, Begins, IsLawful, IsInSnapshot}
 use Rattle.engine.specs.Finding.{document, insertion, replacement, deletion, names}
 use Rattle.shell_run.specs.Defining.{IsDefined}
@@ -179,7 +179,7 @@ IsSearched counts commits q (refused device) note = (note.commit ≡ None) × Me
 IsSearched counts commits q (refused memory) note = note.commit ≡ None
 IsSearched counts commits q reply note = ⊥
 
--- what a cleanup is answered, which has a snapshot and no commit
+-- what a cleanup or a vacuum is answered, which has a snapshot and no commit
 abbrev pub IsCleaned : Counts → Reply → Note → Type 0
 IsCleaned counts maintained note = note.commit ≡ None
 IsCleaned counts (refused store_full) note = note.commit ≡ None
@@ -208,6 +208,7 @@ IsAnswered counts commits known line (search s) reply note =
     (IsRefusedBy (QueryFails known s) reply × (note.commit ≡ None))
     ⊎ ((q : Query) × IsQueryOf known s q × IsSearched counts commits q reply note)
 IsAnswered counts commits known line clean_up reply note = IsCleaned counts reply note
+IsAnswered counts commits known line vacuum reply note = IsCleaned counts reply note
 IsAnswered counts commits known line (show e) reply note =
     IsShown known e reply × (note.commit ≡ None)
 IsAnswered counts commits known line (ask s) reply note =
@@ -238,6 +239,7 @@ FindsDown known (insert e) reply = IsDownReply reply ⊎ IsRefusedBy (ExprFails 
 FindsDown known (update d e) reply = IsDownReply reply ⊎ IsRefusedBy (ExprFails known e) reply
 FindsDown known (delete d) reply = IsDownReply reply
 FindsDown known clean_up reply = IsDownReply reply
+FindsDown known vacuum reply = IsDownReply reply
 FindsDown known list_commits reply = IsDownReply reply
 FindsDown known (search s) reply = IsDownReply reply ⊎ IsRefusedBy (QueryFails known s) reply
 FindsDown known statement reply = Unit {0}
@@ -260,6 +262,7 @@ IsOfStore (update d e) = Unit {0}
 IsOfStore (delete d) = Unit {0}
 IsOfStore (search s) = Unit {0}
 IsOfStore clean_up = Unit {0}
+IsOfStore vacuum = Unit {0}
 IsOfStore list_commits = Unit {0}
 IsOfStore statement = ⊥
 

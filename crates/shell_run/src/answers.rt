@@ -54,7 +54,7 @@ fn removed(answer: Result<(), DbError>) -> Reply
     }
 }
 
-/// The reply to a cleanup.
+/// The reply to a cleanup or a vacuum.
 fn cleaned(answer: Result<(), DbError>) -> Reply
     ensures { reply result ≡ cleaned_reply answer }
 {
@@ -151,6 +151,7 @@ pub fn answer<D: Disk>(
             Err(why) => Reply::Refused(why),
         },
         Statement::Cleanup => cleaned(store.cleanup(pass)),
+        Statement::Vacuum => cleaned(store.vacuum(pass)),
         Statement::Show(from) => show(alloc, configs, &from),
         Statement::Ask(from) => ask_query(alloc, configs, &from),
         Statement::Parse(text) => Reply::Tokens(text),

@@ -15,7 +15,8 @@ use Rattle.ts_base.proofs.ByteKinds.{blank_ascii}
 use Rattle.shell_script.specs.Tokens.{ScriptToken, word, quote, IsSpelled}
 use Rattle.shell_script.specs.Lines.{HasNo}
 use Rattle.shell_script.specs.Grammar.{Statement, insert, update, delete, search, clean_up, show, ask, parse}
-use Rattle.shell_script.specs.Grammar.{list_commits, define, invalid, IsSession, HasSession, IsWrittenAs, IsStatement, label}
+use Rattle.shell_script.specs.Grammar.{vacuum, list_commits, define, invalid, IsSession, HasSession, IsWrittenAs}
+use Rattle.shell_script.specs.Grammar.{IsStatement, label}
 use Rattle.shell_script.specs.Grammar.{expr_tokens, query_tokens, body_tokens, statement_tokens}
 use Rattle.shell_script.specs.Inner.Said.{IsSaidBehind}
 use Rattle.shell_script.specs.Inner.Fronts.{IsNoQuote}
@@ -100,6 +101,7 @@ first_token s (update d e) h = by_label s (update d e) h
 first_token s (delete d) h = by_label s (delete d) h
 first_token s (search t) h = by_label s (search t) h
 first_token s clean_up h = by_label s clean_up h
+first_token s vacuum h = by_label s vacuum h
 first_token s (show e) h = subst (λ n. FirstToken n (show e)) (sym h)
     (record { first = codes "show"; others = expr_tokens e; tokens = refl; some = omega arith; letters = show_letters })
 first_token s (ask t) h = subst (λ n. FirstToken n (ask t)) (sym h)
@@ -198,6 +200,7 @@ says_statement line s (update d e) k = k
 says_statement line s (delete d) k = k
 says_statement line s (search t) k = k
 says_statement line s clean_up k = k
+says_statement line s vacuum k = k
 says_statement line s (show e) k = k
 says_statement line s (ask t) k = k
 says_statement line s (parse t) k = k

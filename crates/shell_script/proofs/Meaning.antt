@@ -6,7 +6,7 @@ use Rattle.shell_script.specs.Tokens.{ScriptToken, word, quote}
 use Rattle.shell_script.specs.Grammar.{Statement, insert, update, delete, clean_up, show, ask, parse, list_commits}
 use Rattle.shell_script.specs.Grammar.{define, invalid, IsSession, IsWrittenAs, IsStatement, HasSession, IsNamed, label}
 use Rattle.shell_script.specs.Grammar.{expr_tokens, query_tokens, body_tokens, statement_tokens}
-use Rattle.shell_script.specs.Grammar.{search as finding}
+use Rattle.shell_script.specs.Grammar.{vacuum, search as finding}
 use Rattle.shell_script.specs.Lines.{Line}
 use Rattle.shell_script.specs.OpeningLines.{Kind, simple_kind, porter_kind, synonym_kind, thesaurus_kind, OpeningLine}
 use Rattle.shell_script.specs.OpeningLines.{dictionary_opening, configuration_opening, mark_tokens, kind_tokens}
@@ -33,6 +33,7 @@ stands s (update d e) h n = inl (n, h, labelled_tokens s (update d e) h)
 stands s (delete d) h n = inl (n, h, labelled_tokens s (delete d) h)
 stands s (finding q) h n = inl (n, h, labelled_tokens s (finding q) h)
 stands s clean_up h n = inl (tt, h, labelled_tokens s clean_up h)
+stands s vacuum h n = inl (tt, h, labelled_tokens s vacuum h)
 stands s (show e) h n = inr (n, h, plain_tokens s (show e) h)
 stands s (ask q) h n = inr (n, h, plain_tokens s (ask q) h)
 stands s (parse t) h n = inr (tt, h, plain_tokens s (parse t) h)
@@ -51,6 +52,7 @@ label_or_plain s ts (update d e) h same = h
 label_or_plain s ts (delete d) h same = h
 label_or_plain s ts (finding x) h same = h
 label_or_plain s ts clean_up h same = h
+label_or_plain s ts vacuum h same = h
 label_or_plain s ts (define head body) h same = h
 label_or_plain s ts invalid h same = h
 
@@ -76,6 +78,7 @@ says line s (update d e) h = inl h
 says line s (delete d) h = inl h
 says line s (finding t) h = inl h
 says line s clean_up h = inl h
+says line s vacuum h = inl h
 says line s (show e) h = inl h
 says line s (ask t) h = inl h
 says line s (parse t) h = inl h
@@ -188,6 +191,7 @@ defined l body (update c e) d = absurd d
 defined l body (delete c) d = absurd d
 defined l body (finding t) d = absurd d
 defined l body clean_up d = absurd d
+defined l body vacuum d = absurd d
 defined l body list_commits d = absurd d
 defined l body (show e) d = absurd d
 defined l body (ask t) d = absurd d

@@ -4,8 +4,8 @@ use Rattle.std.specs.Prelude.{Result, Ok, Err, Option, Some, None, IfOk, IfNone}
 use Rattle.std.specs.Str.{IsUtf8}
 use Rattle.shell_script.specs.Tokens.{ScriptToken, word, quote, IsSpelled}
 use Rattle.shell_script.specs.Grammar.{QuerySource, Expr, Statement, insert, update, delete, search, clean_up, show}
-use Rattle.shell_script.specs.Grammar.{ask, parse, list_commits, define, invalid, IsSession, HasSession, IsExpr, IsQuery, IsNamed}
-use Rattle.shell_script.specs.Grammar.{label, expr_tokens, query_tokens, body_tokens, statement_tokens}
+use Rattle.shell_script.specs.Grammar.{vacuum, ask, parse, list_commits, define, invalid, IsSession, HasSession, IsExpr}
+use Rattle.shell_script.specs.Grammar.{IsQuery, IsNamed, label, expr_tokens, query_tokens, body_tokens, statement_tokens}
 use Rattle.shell_script.specs.Inner.Fronts.{Fronts}
 use Rattle.shell_script.specs.Inner.Said.{IsOfSession, IsPlain, IsStatementBody, IsSaidBehind}
 use Rattle.shell_script.specs.Docs.{Doc, IsDoc}
@@ -46,6 +46,21 @@ delete_or_cleanup e = heads_differ (codes "delete") (codes "cleanup") refl e
 pub search_or_cleanup : codes "search" ≡ codes "cleanup" → ⊥
 search_or_cleanup e = heads_differ (codes "search") (codes "cleanup") refl e
 
+pub insert_or_vacuum : codes "insert" ≡ codes "vacuum" → ⊥
+insert_or_vacuum e = heads_differ (codes "insert") (codes "vacuum") refl e
+
+pub update_or_vacuum : codes "update" ≡ codes "vacuum" → ⊥
+update_or_vacuum e = heads_differ (codes "update") (codes "vacuum") refl e
+
+pub delete_or_vacuum : codes "delete" ≡ codes "vacuum" → ⊥
+delete_or_vacuum e = heads_differ (codes "delete") (codes "vacuum") refl e
+
+pub search_or_vacuum : codes "search" ≡ codes "vacuum" → ⊥
+search_or_vacuum e = heads_differ (codes "search") (codes "vacuum") refl e
+
+pub cleanup_or_vacuum : codes "cleanup" ≡ codes "vacuum" → ⊥
+cleanup_or_vacuum e = heads_differ (codes "cleanup") (codes "vacuum") refl e
+
 -- none of them is there
 pub no_session_body : (first rest : List ℕ)
     → (first ≡ codes "insert" → (e : Expr) → IsExpr e → IsSpelled rest (expr_tokens e) → ⊥)
@@ -53,29 +68,32 @@ pub no_session_body : (first rest : List ℕ)
     → ⊥)
     → (first ≡ codes "delete" → (d : Doc) → IsDoc d → IsSpelled rest (word d.text ∷ []) → ⊥)
     → (first ≡ codes "search" → (q : QuerySource) → IsQuery q → IsSpelled rest (query_tokens q) → ⊥)
-    → (first ≡ codes "cleanup" → IsSpelled rest [] → ⊥) → (s : Statement)
-    → IsStatementBody IsOfSession first rest s → ⊥
-no_session_body first rest f u v g l (insert x) k =
+    → (first ≡ codes "cleanup" → IsSpelled rest [] → ⊥) → (first ≡ codes "vacuum" → IsSpelled rest [] → ⊥)
+    → (s : Statement) → IsStatementBody IsOfSession first rest s → ⊥
+no_session_body first rest f u v g l m (insert x) k =
     let o = words_same (codes "insert") first (expr_tokens x) k.1.0 k.1.1 in
     f (sym o.0) x k.0 (subst (IsSpelled rest) (sym o.1) k.1.2)
-no_session_body first rest f u v g l (update d x) k =
+no_session_body first rest f u v g l m (update d x) k =
     let o = words_same (codes "update") first (word d.text ∷ expr_tokens x) k.1.0 k.1.1 in
     u (sym o.0) d x k.0.0 k.0.1 (subst (IsSpelled rest) (sym o.1) k.1.2)
-no_session_body first rest f u v g l (delete d) k =
+no_session_body first rest f u v g l m (delete d) k =
     let o = words_same (codes "delete") first (word d.text ∷ []) k.1.0 k.1.1 in
     v (sym o.0) d k.0 (subst (IsSpelled rest) (sym o.1) k.1.2)
-no_session_body first rest f u v g l (search x) k =
+no_session_body first rest f u v g l m (search x) k =
     let o = words_same (codes "search") first (query_tokens x) k.1.0 k.1.1 in
     g (sym o.0) x k.0 (subst (IsSpelled rest) (sym o.1) k.1.2)
-no_session_body first rest f u v g l clean_up k =
+no_session_body first rest f u v g l m clean_up k =
     let o = words_same (codes "cleanup") first [] k.1.0 k.1.1 in
     l (sym o.0) (subst (IsSpelled rest) (sym o.1) k.1.2)
-no_session_body first rest f u v g l (show x) k = absurd k.0
-no_session_body first rest f u v g l (ask x) k = absurd k.0
-no_session_body first rest f u v g l (parse x) k = absurd k.0
-no_session_body first rest f u v g l list_commits k = absurd k.0
-no_session_body first rest f u v g l (define head body) k = absurd k.0
-no_session_body first rest f u v g l invalid k = absurd k.0
+no_session_body first rest f u v g l m vacuum k =
+    let o = words_same (codes "vacuum") first [] k.1.0 k.1.1 in
+    m (sym o.0) (subst (IsSpelled rest) (sym o.1) k.1.2)
+no_session_body first rest f u v g l m (show x) k = absurd k.0
+no_session_body first rest f u v g l m (ask x) k = absurd k.0
+no_session_body first rest f u v g l m (parse x) k = absurd k.0
+no_session_body first rest f u v g l m list_commits k = absurd k.0
+no_session_body first rest f u v g l m (define head body) k = absurd k.0
+no_session_body first rest f u v g l m invalid k = absurd k.0
 
 -- where the word is there, and no update after it
 pub no_update : {A E : Type 0} (first rest : List ℕ) (r : Result (Option A) E) → first ≡ codes "update"
@@ -85,7 +103,7 @@ pub no_update : {A E : Type 0} (first rest : List ℕ) (r : Result (Option A) E)
 no_update first rest (Ok None) is none = no_session_body first rest (λ e x n k. insert_or_update (sym e ∙ is))
     (λ e d x h n k. none d x h n k)
     (λ e d h k. update_or_delete (sym is ∙ e)) (λ e q n k. update_or_search (sym is ∙ e))
-    (λ e k. update_or_cleanup (sym is ∙ e))
+    (λ e k. update_or_cleanup (sym is ∙ e)) (λ e k. update_or_vacuum (sym is ∙ e))
 no_update first rest (Ok (Some found)) is none = tt
 no_update first rest (Err e) is none = tt
 
@@ -145,6 +163,27 @@ one_of_session clean_up (delete c) p q same =
     absurd (delete_or_cleanup (sym (words_same (codes "cleanup") (codes "delete") [] (word c.text ∷ []) same).0))
 one_of_session clean_up (search y) p q same =
     absurd (search_or_cleanup (sym (words_same (codes "cleanup") (codes "search") [] (query_tokens y) same).0))
+one_of_session vacuum vacuum p q same = refl
+one_of_session (insert x) vacuum p q same =
+    absurd (insert_or_vacuum (words_same (codes "insert") (codes "vacuum") (expr_tokens x) [] same).0)
+one_of_session (update d x) vacuum p q same =
+    absurd (update_or_vacuum (words_same (codes "update") (codes "vacuum") (word d.text ∷ expr_tokens x) [] same).0)
+one_of_session (delete d) vacuum p q same =
+    absurd (delete_or_vacuum (words_same (codes "delete") (codes "vacuum") (word d.text ∷ []) [] same).0)
+one_of_session (search x) vacuum p q same =
+    absurd (search_or_vacuum (words_same (codes "search") (codes "vacuum") (query_tokens x) [] same).0)
+one_of_session clean_up vacuum p q same =
+    absurd (cleanup_or_vacuum (words_same (codes "cleanup") (codes "vacuum") [] [] same).0)
+one_of_session vacuum (insert y) p q same =
+    absurd (insert_or_vacuum (sym (words_same (codes "vacuum") (codes "insert") [] (expr_tokens y) same).0))
+one_of_session vacuum (update c y) p q same = absurd
+    (update_or_vacuum (sym (words_same (codes "vacuum") (codes "update") [] (word c.text ∷ expr_tokens y) same).0))
+one_of_session vacuum (delete c) p q same =
+    absurd (delete_or_vacuum (sym (words_same (codes "vacuum") (codes "delete") [] (word c.text ∷ []) same).0))
+one_of_session vacuum (search y) p q same =
+    absurd (search_or_vacuum (sym (words_same (codes "vacuum") (codes "search") [] (query_tokens y) same).0))
+one_of_session vacuum clean_up p q same =
+    absurd (cleanup_or_vacuum (sym (words_same (codes "vacuum") (codes "cleanup") [] [] same).0))
 one_of_session (insert x) (show y) p q same = absurd q
 one_of_session (insert x) (ask y) p q same = absurd q
 one_of_session (insert x) (parse y) p q same = absurd q
@@ -175,6 +214,12 @@ one_of_session clean_up (parse y) p q same = absurd q
 one_of_session clean_up list_commits p q same = absurd q
 one_of_session clean_up (define head body) p q same = absurd q
 one_of_session clean_up invalid p q same = absurd q
+one_of_session vacuum (show y) p q same = absurd q
+one_of_session vacuum (ask y) p q same = absurd q
+one_of_session vacuum (parse y) p q same = absurd q
+one_of_session vacuum list_commits p q same = absurd q
+one_of_session vacuum (define head body) p q same = absurd q
+one_of_session vacuum invalid p q same = absurd q
 one_of_session (show x) b p q same = absurd p
 one_of_session (ask x) b p q same = absurd p
 one_of_session (parse x) b p q same = absurd p
@@ -224,6 +269,7 @@ no_plain_body first rest f g h l (update d x) k = absurd k.0
 no_plain_body first rest f g h l (delete d) k = absurd k.0
 no_plain_body first rest f g h l (search x) k = absurd k.0
 no_plain_body first rest f g h l clean_up k = absurd k.0
+no_plain_body first rest f g h l vacuum k = absurd k.0
 no_plain_body first rest f g h l (define head body) k = absurd k.0
 no_plain_body first rest f g h l invalid k = absurd k.0
 
@@ -267,6 +313,7 @@ one_plain (show x) (update c y) p q same = absurd q
 one_plain (show x) (delete c) p q same = absurd q
 one_plain (show x) (search y) p q same = absurd q
 one_plain (show x) clean_up p q same = absurd q
+one_plain (show x) vacuum p q same = absurd q
 one_plain (show x) (define head body) p q same = absurd q
 one_plain (show x) invalid p q same = absurd q
 one_plain (ask x) (insert y) p q same = absurd q
@@ -274,6 +321,7 @@ one_plain (ask x) (update c y) p q same = absurd q
 one_plain (ask x) (delete c) p q same = absurd q
 one_plain (ask x) (search y) p q same = absurd q
 one_plain (ask x) clean_up p q same = absurd q
+one_plain (ask x) vacuum p q same = absurd q
 one_plain (ask x) (define head body) p q same = absurd q
 one_plain (ask x) invalid p q same = absurd q
 one_plain (parse x) (insert y) p q same = absurd q
@@ -281,6 +329,7 @@ one_plain (parse x) (update c y) p q same = absurd q
 one_plain (parse x) (delete c) p q same = absurd q
 one_plain (parse x) (search y) p q same = absurd q
 one_plain (parse x) clean_up p q same = absurd q
+one_plain (parse x) vacuum p q same = absurd q
 one_plain (parse x) (define head body) p q same = absurd q
 one_plain (parse x) invalid p q same = absurd q
 one_plain list_commits (insert y) p q same = absurd q
@@ -288,6 +337,7 @@ one_plain list_commits (update c y) p q same = absurd q
 one_plain list_commits (delete c) p q same = absurd q
 one_plain list_commits (search y) p q same = absurd q
 one_plain list_commits clean_up p q same = absurd q
+one_plain list_commits vacuum p q same = absurd q
 one_plain list_commits (define head body) p q same = absurd q
 one_plain list_commits invalid p q same = absurd q
 one_plain (insert x) b p q same = absurd p
@@ -295,6 +345,7 @@ one_plain (update d x) b p q same = absurd p
 one_plain (delete d) b p q same = absurd p
 one_plain (search x) b p q same = absurd p
 one_plain clean_up b p q same = absurd p
+one_plain vacuum b p q same = absurd p
 one_plain (define head body) b p q same = absurd p
 one_plain invalid b p q same = absurd p
 
@@ -338,6 +389,7 @@ said_by_label first rest w behind s statement u i e h k = record {
     named (delete d) o = o
     named (search x) o = o
     named clean_up o = tt
+    named vacuum o = tt
     named list_commits o = absurd o
     named (show x) o = absurd o
     named (ask x) o = absurd o
@@ -351,6 +403,7 @@ said_by_label first rest w behind s statement u i e h k = record {
     by (delete d) o = i
     by (search x) o = i
     by clean_up o = i
+    by vacuum o = i
     by list_commits o = absurd o
     by (show x) o = absurd o
     by (ask x) o = absurd o
@@ -392,6 +445,10 @@ none_by_label first rest w behind s e h bad t clean_up k =
     let o = behind_one rest (word w) behind (word (codes "cleanup")) [] h
     (store_said first rest s t clean_up e k.session tt k) in
     bad clean_up (tt, ([], ap (λ z. z ∷ []) o.0, o.1))
+none_by_label first rest w behind s e h bad t vacuum k =
+    let o = behind_one rest (word w) behind (word (codes "vacuum")) [] h
+    (store_said first rest s t vacuum e k.session tt k) in
+    bad vacuum (tt, ([], ap (λ z. z ∷ []) o.0, o.1))
 none_by_label first rest w behind s e h bad t (show x) k = label_or_show s (sym e ∙ sym
     (words_same (codes "show") first (expr_tokens x) k.others (sym (plain_tokens t (show x) k.session) ∙ k.tokens)).0)
 none_by_label first rest w behind s e h bad t (ask x) k = label_or_ask s (sym e ∙ sym
@@ -415,6 +472,8 @@ none_by_no_word first rest s e bad t (search x) k =
     bad (codes "search") (query_tokens x) (store_said first rest s t (search x) e k.session k.named k)
 none_by_no_word first rest s e bad t clean_up k =
     bad (codes "cleanup") [] (store_said first rest s t clean_up e k.session tt k)
+none_by_no_word first rest s e bad t vacuum k =
+    bad (codes "vacuum") [] (store_said first rest s t vacuum e k.session tt k)
 none_by_no_word first rest s e bad t (show x) k = label_or_show s (sym e ∙ sym
     (words_same (codes "show") first (expr_tokens x) k.others (sym (plain_tokens t (show x) k.session) ∙ k.tokens)).0)
 none_by_no_word first rest s e bad t (ask x) k = label_or_ask s (sym e ∙ sym
@@ -446,6 +505,7 @@ said_plainly first rest statement u k = record {
     named (insert x) o = absurd o
     named (search x) o = absurd o
     named clean_up o = absurd o
+    named vacuum o = absurd o
     named (define head body) o = absurd o
     named invalid o = absurd o
 
@@ -459,6 +519,7 @@ said_plainly first rest statement u k = record {
     by (insert x) o = absurd o
     by (search x) o = absurd o
     by clean_up o = absurd o
+    by vacuum o = absurd o
     by (define head body) o = absurd o
     by invalid o = absurd o
 
@@ -494,6 +555,12 @@ none_plainly first rest unlabelled bad t clean_up k = labelled t k.session k.tok
     labelled zero j e = omega (arith, j.0)
     labelled (suc n) j e =
         unlabelled (suc n) j (sym (words_same (label (suc n)) first (body_tokens clean_up) k.others e).0)
+none_plainly first rest unlabelled bad t vacuum k = labelled t k.session k.tokens
+  where
+    labelled : (n : ℕ) → IsSession n → statement_tokens n vacuum ≡ word first ∷ k.others → ⊥
+    labelled zero j e = omega (arith, j.0)
+    labelled (suc n) j e =
+        unlabelled (suc n) j (sym (words_same (label (suc n)) first (body_tokens vacuum) k.others e).0)
 none_plainly first rest unlabelled bad t (show x) k =
     bad (show x) (k.named, (k.others, sym (plain_tokens t (show x) k.session) ∙ k.tokens, k.spelled))
 none_plainly first rest unlabelled bad t (ask x) k =

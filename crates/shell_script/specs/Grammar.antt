@@ -100,6 +100,7 @@ pub data Statement : Type 0 where
   delete : Doc → Statement
   search : QuerySource → Statement
   clean_up : Statement
+  vacuum : Statement
   show : Expr → Statement
   ask : QuerySource → Statement
   parse : List ℕ → Statement
@@ -114,6 +115,7 @@ body_tokens (update d e) = word (codes "update") ∷ word d.text ∷ expr_tokens
 body_tokens (delete d) = word (codes "delete") ∷ word d.text ∷ []
 body_tokens (search q) = word (codes "search") ∷ query_tokens q
 body_tokens clean_up = word (codes "cleanup") ∷ []
+body_tokens vacuum = word (codes "vacuum") ∷ []
 body_tokens (show e) = word (codes "show") ∷ expr_tokens e
 body_tokens (ask q) = word (codes "ask") ∷ query_tokens q
 body_tokens (parse text) = word (codes "parse") ∷ quote text ∷ []
@@ -136,6 +138,7 @@ HasSession s (update d e) = IsSession s
 HasSession s (delete d) = IsSession s
 HasSession s (search q) = IsSession s
 HasSession s clean_up = IsSession s
+HasSession s vacuum = IsSession s
 HasSession s (show e) = s ≡ 0
 HasSession s (ask q) = s ≡ 0
 HasSession s (parse text) = s ≡ 0

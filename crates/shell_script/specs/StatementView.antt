@@ -12,7 +12,7 @@ use Rattle.shell_script.specs.declared.sources.Expr.{Expr}
 use Rattle.shell_script.specs.declared.docs.Doc.{Doc}
 use Rattle.shell_script.specs.declared.statement.Statement.{Statement}
 use Rattle.shell_script.specs.declared.statement.Statement.TheVariants.{Insert, Update, Delete, Search, Cleanup}
-use Rattle.shell_script.specs.declared.statement.Statement.TheVariants.{Show, Ask, Parse, Commits, Invalid}
+use Rattle.shell_script.specs.declared.statement.Statement.TheVariants.{Vacuum, Show, Ask, Parse, Commits, Invalid}
 
 abbrev pub vector_source : VectorSource → grammar.VectorSource
 vector_source (vectors.Text text) = grammar.vector_text (string_bytes text)
@@ -39,6 +39,7 @@ statement (Update d e) = grammar.update (doc d) (expr e)
 statement (Delete d) = grammar.delete (doc d)
 statement (Search q) = grammar.search (query_source q)
 statement Cleanup = grammar.clean_up
+statement Vacuum = grammar.vacuum
 statement (Show e) = grammar.show (expr e)
 statement (Ask q) = grammar.ask (query_source q)
 statement (Parse text) = grammar.parse (string_bytes text)

@@ -77,7 +77,7 @@ pub enum Reply {
     Stored(Name),
     /// The document was deleted.
     Removed,
-    /// The store was maintained, by a cleanup.
+    /// The store was maintained, by a cleanup or a vacuum.
     Maintained,
     /// The documents that a search found.
     Lists(Vec<Name>),

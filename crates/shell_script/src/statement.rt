@@ -31,6 +31,8 @@ pub enum Statement<'a> {
     Search(QuerySource<'a>),
     /// The pending list is to be moved into the index.
     Cleanup,
+    /// Dead documents are to leave the index and the heap.
+    Vacuum,
     /// The text of an expression's vector is asked for.
     Show(Expr<'a>),
     /// The printed form of a query is asked for.
@@ -146,6 +148,9 @@ fn session_statement<'a>(alloc: Global, first: &[u8], rest: &'a str) -> Read<'a>
     }
     if is_word(first, "cleanup") && is_all_blank(rest) {
         return Ok(Some(Statement::Cleanup));
+    }
+    if is_word(first, "vacuum") && is_all_blank(rest) {
+        return Ok(Some(Statement::Vacuum));
     }
     Ok(None)
 }

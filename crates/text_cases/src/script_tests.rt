@@ -94,6 +94,7 @@ const ASKING: &str = "\
     ~4294967295/00#18446744073709551615~, name: Name { page: 4294967295, slot: 0, serial: 18446744073709551615 } }) };\
     \x20commits\t=ScriptLine { session: 0, statement: Commits };\
     @3\tcleanup =ScriptLine { session: 3, statement: Cleanup };\
+    @8 vacuum\t=ScriptLine { session: 8, statement: Vacuum };\
     @3\tinsert\tvector\t'é'\t=ScriptLine { session: 3, statement: Insert(Expr { first: Part { stripped: false, \
     source: Text(~é~) }, others: [] }) };\
     show c 'a b' || strip _d B 'c'=ScriptLine { session: 0, statement: Show(Expr { first: Part { stripped: false, \
@@ -120,7 +121,7 @@ const NO_STATEMENTS: &str = "\
     show c 'x' || A strip 'x';ask c 'x';ask to 'x';ask to c;ask to vector 'x';ask To c 'x';ask to c A 'x';\
     ask web c 'x' 'x';commits now;@1 commits;delete 2/0#1;@1 delete 2/65536#1;@1 delete +2/0#1;@1 delete 2/0;\
     @1 delete 2/0#;@1 delete 2/0#1 x;@1 update 2/0#1;@1 update vector 'a';cleanup;@1 cleanup 'a';@1 cleanup x;\
-    @1 Cleanup";
+    @1 Cleanup;vacuum;@1 vacuum x;@1 vacuum 2/0#1;@1 vacuums;@1 Vacuum";
 
 /// The bytes of a line.
 fn bytes_of(alloc: Global, line: &str) -> Result<Vec<u8>, AllocError> {
@@ -214,6 +215,6 @@ fn scripts(rt: HostRuntime) -> Result<(), Fail> {
     try_rows(&rt, alloc, Kind::Script, STEPS, 8)?;
     try_rows(&rt, alloc, Kind::OpeningLine, OPENING_LINES, 32)?;
     try_rows(&rt, alloc, Kind::Mapping, MAPPINGS, 15)?;
-    try_rows(&rt, alloc, Kind::Statement, ASKING, 19)?;
-    try_rows(&rt, alloc, Kind::Statement, NO_STATEMENTS, 68)
+    try_rows(&rt, alloc, Kind::Statement, ASKING, 20)?;
+    try_rows(&rt, alloc, Kind::Statement, NO_STATEMENTS, 73)
 }

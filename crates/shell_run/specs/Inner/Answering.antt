@@ -12,12 +12,13 @@ use Rattle.engine.specs.Db.{DbValue}
 use Rattle.engine.specs.Work.{Work, inserting, updating, deleting}
 use Rattle.engine.specs.Answers.{HasDeleted, HasFound, HasListed, OnlyReads, TakesSnapshot}
 use Rattle.engine.specs.Cleaning.{HasMoved, HasCleaned, StoresThenTidies}
+use Rattle.engine.specs.Vacuuming.{HasWorked, HasVacuumed}
 use Rattle.engine.specs.Answers.{IsLawfulRefusal, MeetsNoBadPage}
 use Rattle.engine.specs.Going.{FaultIsTold}
 use Rattle.engine.specs.Standing.{GoesOn}
 use Rattle.engine.specs.declared.error.DbError.{DbError}
 use Rattle.shell_script.specs.Grammar.{Statement, insert, update, delete, search, clean_up, show, ask, parse}
-use Rattle.shell_script.specs.Grammar.{list_commits, define, invalid}
+use Rattle.shell_script.specs.Grammar.{vacuum, list_commits, define, invalid}
 use Rattle.shell_script.specs.Replies.{Reply, refused, no_statement}
 use Rattle.shell_run.specs.Defining.{IsDefined}
 use Rattle.shell_run.specs.Values.{IsValueOf, ExprFails, IsQueryOf, QueryFails, IsRefusedBy, IsShown, IsQueried}
@@ -60,6 +61,13 @@ module _ {D : Type 0} (device : Disk D) (old new : DbValue D) (pass pass' : Pass
       × HasCalled (HasCleaned device old new) (MeetsNoBadPage device old)
       (λ (a : Result (Unit {0}) DbError). λ r. r ≡ cleaned_reply a) r
 
+  -- what a vacuum is answered
+  abbrev pub HasTakenOut : Reply → Type 0
+  HasTakenOut r =
+      HasWorked device old new
+      × HasCalled (HasVacuumed device old new) (MeetsNoBadPage device old)
+      (λ (a : Result (Unit {0}) DbError). λ r. r ≡ cleaned_reply a) r
+
   -- what a call is answered that only reads
   abbrev pub HasSearched : Query → Reply → Type 0
   HasSearched q r =
@@ -84,6 +92,7 @@ module _ {D : Type 0} (device : Disk D) (old new : DbValue D) (pass pass' : Pass
       HasOnlyAnswered (IsRefusedBy (QueryFails known s)) r
       ⊎ ((q : Query) × IsQueryOf known s q × HasSearched q r)
   HasAnswered known line clean_up r = HasTidied r
+  HasAnswered known line vacuum r = HasTakenOut r
   HasAnswered known line list_commits r = HasListedCommits r
   HasAnswered known line (show e) r = HasOnlyAnswered (IsShown known e) r
   HasAnswered known line (ask s) r = HasOnlyAnswered (IsQueried known s) r

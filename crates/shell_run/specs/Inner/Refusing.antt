@@ -38,7 +38,7 @@ line_refusal lines.StopInSample number = replies.no_statement number
 line_refusal lines.UnknownInSample number = replies.no_statement number
 line_refusal lines.Memory number = replies.memory
 
--- the replies to an insertion or an update, to a deletion, to a cleanup, and to a search
+-- the replies to an insertion or an update, to a deletion, to a cleanup or a vacuum, and to a search
 abbrev pub stored_reply : Result Name DbError → replies.Reply
 stored_reply (Ok n) = replies.stored n
 stored_reply (Err e) = replies.refused (refusal_for e)

@@ -4,7 +4,7 @@ use Rattle.std.specs.Str.{IsUtf8}
 use Rattle.shell_script.specs.Tokens.{ScriptToken, word, IsSpelled}
 use Rattle.shell_script.specs.Docs.{IsDoc}
 use Rattle.shell_script.specs.Grammar.{Statement, insert, update, delete, search, clean_up, show, ask, parse}
-use Rattle.shell_script.specs.Grammar.{list_commits}
+use Rattle.shell_script.specs.Grammar.{vacuum, list_commits}
 use Rattle.shell_script.specs.Grammar.{IsExpr, IsQuery, IsNamed, HasSession, body_tokens, statement_tokens}
 
 -- the statements that a session's label comes before, in which a name is a NAME or a DOC
@@ -14,6 +14,7 @@ IsOfSession (update d e) = IsDoc d × IsExpr e
 IsOfSession (delete d) = IsDoc d
 IsOfSession (search q) = IsQuery q
 IsOfSession clean_up = Unit {0}
+IsOfSession vacuum = Unit {0}
 IsOfSession statement = ⊥
 
 -- the statements that are alone, likewise
