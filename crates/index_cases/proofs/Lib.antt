@@ -1,3 +1,5 @@
 mod FirstKey
 mod Rights
 mod Rising
+mod Turning
+mod TurnSteps

@@ -13,6 +13,8 @@ mod rows;
 mod scans;
 mod silent;
 mod stores;
+mod turns;
+mod vacuuming;
 mod working;
 
 use anyhow::{Result, ensure};
@@ -39,10 +41,11 @@ fn run_row(bench: &Bench<'_>, disk: &mut MemoryDisk, row: Row<'_>) -> Result<()>
     match row.verb {
         "new" => *disk = MemoryDisk::new(alloc, Vec::new(alloc)),
         "log" => put(alloc, disk, row)?,
-        "insert" | "search" => stores::run(bench, disk, row)?,
-        "clean" | "place" => working::run(bench, disk, row)?,
+        "insert" | "search" | "delete" => stores::run(bench, disk, row)?,
+        "clean" | "place" | "vacuum" => working::run(bench, disk, row)?,
         "fail" => failing::run(bench, disk, row)?,
         "judge" => judging::run(bench, disk, row)?,
+        "turn" => turns::run(bench, disk, row)?,
         _ => scans::run(bench, disk, row)?,
     }
     Ok(())

@@ -1,17 +1,24 @@
 // The rows, and what their words stand for.
 
 /// What is done with a device: how often, and how often where time is asked for, with what, and after `|` what is
-/// printed after the first count. `new` begins another device; `log` puts bytes at a place of its log. `insert` has the
-/// vector of the documents: `-` is the one without words, `long` one of a word of 2,046 letters, each time another,
-/// where it has none, each has eight words that are drawn, and of `half` about every other one has the word `common`
-/// too. `search` has a query; both also print the serial of the last document that they stored or found. `scan` has a
-/// query: it is printed how many documents are found, how many the judge does not leave out, and how many heads and
-/// pages are read in how many steps. `clean` moves the pending list to the trees; it is printed how many records it
-/// logs, and where no page or no byte of the log was left. Its words are how many pages there may be, and how many
-/// bytes. `tree` has a word: it is printed how many items the trees have for it, and how many pages are read, the
-/// leftmost way and all leaves, and so of the word's posting tree. `judge` has a query: it is printed how many
+/// printed after the first count. `new` begins another device; `log` puts bytes at a place of its log. `insert` has
+/// the vector of the documents: `-` is the one without words, `long` one of a word of 2,046 letters, each time
+/// another, where it has none, each has eight words that are drawn, and of `half` about every other one has the word
+/// `common` too. `search` has a query; both also print the serial of the last document that they stored or found.
+/// `scan` has a query: it is printed how many documents are found, how many the judge does not leave out, and how many
+/// heads and pages are read in how many steps. `clean` moves the pending list to the trees; it is printed how many
+/// records it logs, and where no page or no byte of the log was left. Its words are how many pages there may be, and
+/// how many bytes. `tree` has a word: it is printed how many items the trees have for it, and how many pages are read,
+/// the leftmost way and all leaves, and so of the word's posting tree. `judge` has a query: it is printed how many
 /// documents the model doesn't leave out, and of how many it is sure without their vector; the log is legal, each
-/// document in one part of the index after each record, and each judged rightly. `hold` holds a page.
+/// document in one part of the index after each record, and each judged rightly. `turn` has a query: a scan for it and
+/// a cleanup take turns, after each number of its steps with each of some numbers of those of the cleanup before each
+/// other one; it is printed in how many such runs the scan finds something else than alone. `bad` has a query: it is
+/// printed which page a scan for it calls bad. `hold` holds a page.
+///
+/// `delete` has a number and a query: of the documents that are found the first one is deleted, and then each that is
+/// so many after it; the serial of the last one is printed too. `vacuum` takes out what is dead; its words are those of
+/// `clean`, and it is printed how many records it logs.
 ///
 /// `place` puts items, that no row has, under so many keys: its words are how many letters each has, the first item,
 /// how many there are, the step from one to the next, how many are put at once, and then those of `clean`. It is
@@ -23,6 +30,9 @@
 ///
 /// In the log are three inserts: the second one, of `b:1`, is aborted when its row is linked. The row stays, and the
 /// document is never found.
+///
+/// In three logs is no insert, but the root of the tree of keys is no lawful one: it is its own child, it names page 5,
+/// which no record changed, as a posting tree of `a`, or its right link leads to itself.
 ///
 /// 995 documents of one word make a list of 1000 bytes, and with one more the list is a posting tree. A leaf of it has
 /// room for some 8,100 of these items. 9,000 documents of two words are on 54 heap pages and 16 of the list, so that of
@@ -42,7 +52,7 @@ pub(crate) const ROWS: &str = "\
     scan 1 1 a | with a
     scan 1 1 a & b | with a and b
     new
-    log 0 0 0147494e5348204452414654203030303501b7e00000184000000100000000010000000000000002000000000001
+    log 0 0 0147494e53482053544f5245203030303101b7e00000184000000100000000010000000000000002000000000001
     log 53 0 01000000000000000c
     log 8237 0 0100000000050000000000000001
     log 16434 0 0e00000002010000000200000000000000001f200000060100000003000000000000000010000001000000000000
@@ -77,6 +87,24 @@ pub(crate) const ROWS: &str = "\
     insert 1 1 b:1 | insert of b
     scan 1 1 b | with b
     new
+    log 0 0 0147494e53482053544f52452030303031011c400000184000000100000000010000000000000002000000000001
+    log 53 0 01000000000000000c
+    log 8237 0 0100000000060001000000000001000000000000000600000000000000010000000000
+    log 16434 0 00
+    scan 1 1 a | with a in a tree that leads back
+    new
+    log 0 0 0147494e53482053544f52452030303031011c400000184000000100000000010000000000000002000000000001
+    log 53 0 01000000000000000c
+    log 8237 0 0100000000050001000000000001000000000000000900000000000000020000610105000000
+    log 16434 0 00
+    bad 1 1 a | is a root that is no posting page
+    new
+    log 0 0 0147494e53482053544f52452030303031011c400000184000000100000000010000000000000002000000000001
+    log 53 0 01000000000000000c
+    log 8237 0 0100000000050001000100000001000000000000000d0000000000000002000062020000610002008020
+    log 16434 0 00
+    scan 1 1 b:* | with b at a leaf that leads to itself
+    new
     insert 1 1 - | insert of no word
     clean 1 1 | records of a cleanup
     tree 1 1 - | items of the placeholder
@@ -109,8 +137,17 @@ pub(crate) const ROWS: &str = "\
     tree 1 1 b | items of b
     scan 1 1 a & b | with a and b
     search 1 1 a | with a
+    delete 1 1 1 a | deletions of all
+    vacuum 1 1 | records of a vacuum
+    tree 1 1 a | items of a
+    insert 10 10 a:1 | inserts of a
+    clean 1 1 | records of a cleanup
+    tree 1 1 a | items of a
+    scan 1 1 a | with a
+    judge 1 1 a | with a to the model
     new
     insert 8 8 long | inserts of long words
+    turn 1 1 !z | without z
     clean 1 1 16 | records of a cleanup
     scan 1 1 !z | without z
     clean 1 1 65536 520000 | records of a cleanup
@@ -121,8 +158,13 @@ pub(crate) const ROWS: &str = "\
     judge 1 1 !z | without z to the model
     new
     insert 200 200 | inserts of eight words
+    turn 1 1 w2:* | with a word that begins with w2
+    turn 1 1 w241 & !w5 | with w241 and without w5
     clean 1 1 | records of a cleanup
     judge 1 1 w2* | with a word that begins with w2 to the model
+    new
+    insert 996 996 a:1 | inserts of a
+    turn 1 1 a | with a
     new
     insert 2 2 long | inserts of long words
     insert 2 2 a:1 b:1 | inserts of a and b
@@ -172,6 +214,45 @@ pub(crate) const ROWS: &str = "\
     place 1 1 6 2 9000 2 9000 | records of 9,000 even items
     fail 1 1 place 6 1 9000 2 3000 | items with the odd ones, in three parts
     new
+    insert 9 9 a:1 | inserts of a
+    delete 1 1 3 a | deletions of each third one
+    scan 1 1 a | with a
+    vacuum 1 1 | records of a vacuum
+    tree 1 1 a | items of a
+    scan 1 1 a | with a
+    vacuum 1 1 | records of one more
+    insert 3 3 b:1 | inserts of b
+    scan 1 1 b | with b
+    scan 1 1 !b | without b
+    judge 1 1 !b | without b to the model
+    new
+    insert 3000 3000 a:1 | inserts of a
+    clean 1 1 | records of a cleanup
+    delete 1 1 2 a | deletions of each other one
+    vacuum 1 1 | records of a vacuum
+    tree 1 1 a | items of a
+    scan 1 1 a | with a
+    delete 1 1 1 a | deletions of the rest
+    vacuum 1 1 | records of a vacuum
+    tree 1 1 a | items of a
+    insert 1000 1000 a:1 | inserts of a
+    clean 1 1 | records of a cleanup
+    tree 1 1 a | items of a
+    scan 1 1 a | with a
+    judge 1 1 a | with a to the model
+    new
+    insert 8 8 long | inserts of long words
+    delete 1 1 1 !z | deletions of them
+    vacuum 1 1 16 | records of a vacuum on 16 pages
+    vacuum 1 1 65536 520000 | records of the rest in a short log
+    vacuum 1 1 | records of the rest
+    tree 1 1 * | items of all keys
+    new
+    insert 2 2 long | inserts of long words
+    insert 4 4 a:1 b:1 | inserts of a and b
+    delete 1 1 2 !z | deletions of each other one
+    fail 1 1 vacuum | items of a vacuum
+    new
     insert 1000 20000 | inserts of eight words
     search 1 100 w241 | with w241
     search 1 100 z | with z
@@ -202,10 +283,18 @@ pub(crate) const ROWS: &str = "\
     search 1 1000 w241 <-> w5 | with w241 before w5
     search 1 1000 w241 & !w5 | with w241 and without w5
     search 1 10 !w241 | without w241
+    vacuum 1 1 | records of a vacuum of nothing
+    delete 1 1 3 !z | deletions of each third one
+    vacuum 1 1 | records of a vacuum
+    search 1 1000 w241 | with w241
+    search 1 10 !w241 | without w241
     new
     insert 1000 20000 common:1 | inserts of one word
     clean 1 1 | records of a cleanup
     tree 1 1 common | items of the word
+    search 1 100 common | with the word
+    delete 1 1 1 common | deletions of all
+    vacuum 1 1 | records of a vacuum
     search 1 100 common | with the word
     new
     insert 1000 20000 half | inserts of eight words, half of them with one more

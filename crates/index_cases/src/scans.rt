@@ -118,6 +118,41 @@ fn print_scan<D: Disk>(
     bench.count(counts.steps, "steps")
 }
 
+/// The page that a scan for a query calls bad.
+fn bad_page<D: Disk>(
+    alloc: Global,
+    frames: &mut Frames<D>,
+    pass: &mut Pass,
+    words: &str,
+) -> Option<u32>
+    requires pass { IsPassOf frames.old pass.old }
+    requires none { pass.old.pin ≡ None }
+    requires held { pass.old.held ≡ 0 }
+{
+    let query = TsQuery::parse(alloc, words).ok()?;
+    match scan(alloc, frames, pass, &query) {
+        Err(FrameError::BadPage { page }) => Some(page),
+        _ => None,
+    }
+}
+
+/// Prints which page a scan calls bad.
+fn print_bad<D: Disk>(
+    bench: &Bench<'_>,
+    frames: &mut Frames<D>,
+    pass: &mut Pass,
+    row: Row<'_>,
+) -> Result<()>
+    requires pass { IsPassOf frames.old pass.old }
+    requires none { pass.old.pin ≡ None }
+    requires held { pass.old.held ≡ 0 }
+{
+    let Some(page) = bad_page(bench.alloc(), frames, pass, row.words) else {
+        bail!("no page is called bad");
+    };
+    bench.count(u64::from(page), row.title)
+}
+
 /// Holds a page so often, and gives it back.
 fn hold_often<D: Disk>(
     frames: &mut Frames<D>,
@@ -168,6 +203,7 @@ fn work_on<D: Disk>(
 {
     match row.verb {
         "hold" => print_holds(bench, frames, pass, row),
+        "bad" => print_bad(bench, frames, pass, row),
         "tree" => print_tree(bench, frames, pass, row),
         _ => print_scan(bench, frames, pass, row),
     }

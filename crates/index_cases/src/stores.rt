@@ -1,9 +1,9 @@
-// Inserts and searches, by the calls of a store. A call that memory refused is made once more.
+// Inserts, searches and deletions, by the calls of a store. A call that memory refused is made once more.
 ghost use Rattle.std.specs.Prelude.{◌≡◌, IfOk};
 ghost use Rattle.engine.specs.Answers.{IsSession};
 
 use crate::documents::next_document;
-use crate::rows::Row;
+use crate::rows::{Row, number, word};
 use anyhow::{Result, bail};
 use bench_base::{Bench, Figure};
 use disk_trait::MemoryDisk;
@@ -90,7 +90,61 @@ fn search_often(
     Some(found)
 }
 
-/// Inserts or searches so often, by the words of a row.
+/// Deletes a document.
+fn delete(store: &mut Db<MemoryDisk>, pass: &mut Pass, name: Name) -> result::Result<(), DbError>
+    requires session { IsSession store.old pass.old }
+    ensures session { IsSession store.new pass.new }
+    ensures room { pass.new.room ≡ pass.old.room }
+{
+    match store.delete(pass, name) {
+        Err(DbError::OutOfMemory) => store.delete(pass, name),
+        deleted => deleted,
+    }
+}
+
+/// Deletes the first of these documents, and each that is so many after one that it deletes: how many, and the serial
+/// of the last one.
+fn delete_each(
+    store: &mut Db<MemoryDisk>,
+    pass: &mut Pass,
+    names: &[Name],
+    step: u32,
+) -> Option<(usize, u64)>
+    requires session { IsSession store.old pass.old }
+    ensures session { IsSession store.new pass.new }
+    ensures room { pass.new.room ≡ pass.old.room }
+{
+    let mut deleted = (0usize, 0);
+    let mut left = 1u32;
+    for name in names {
+        left = left.saturating_sub(1);
+        if left == 0 {
+            delete(store, pass, *name).ok()?;
+            deleted = (deleted.0.saturating_add(1), name.serial);
+            left = step;
+        }
+    }
+    Some(deleted)
+}
+
+/// Deletes each so many-th document that satisfies the query of a row: how many, and the serial of the last one.
+fn delete_some(
+    alloc: Global,
+    store: &mut Db<MemoryDisk>,
+    pass: &mut Pass,
+    words: &str,
+) -> Option<(usize, u64)>
+    requires session { IsSession store.old pass.old }
+    ensures session { IsSession store.new pass.new }
+    ensures room { pass.new.room ≡ pass.old.room }
+{
+    let (step, text) = word(words);
+    let query = TsQuery::parse(alloc, text).ok()?;
+    let names = search(store, pass, &query).ok()?;
+    delete_each(store, pass, &names, number(step))
+}
+
+/// Inserts, deletes or searches so often, by the words of a row.
 fn call(
     alloc: Global,
     store: &mut Db<MemoryDisk>,
@@ -105,11 +159,14 @@ fn call(
     if row.verb == "insert" {
         return insert_all(alloc, store, pass, row.words, times);
     }
+    if row.verb == "delete" {
+        return delete_some(alloc, store, pass, row.words);
+    }
     let query = TsQuery::parse(alloc, row.words).ok()?;
     search_often(store, pass, &query, times)
 }
 
-/// The same, and prints how many documents are stored or found, and the serial of the last one.
+/// The same, and prints how many documents are stored, deleted or found, and the serial of the last one.
 fn work_on(
     bench: &Bench<'_>,
     store: &mut Db<MemoryDisk>,

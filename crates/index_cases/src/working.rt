@@ -8,6 +8,7 @@ use crate::cleaning::clean;
 use crate::placing::{Load, put_all};
 use crate::rows::{Row, number, word};
 use crate::silent::Silent;
+use crate::vacuuming::vacuum;
 use anyhow::{Result, bail};
 use bench_base::{Bench, Figure};
 use buffer_frames::{Ask, FrameError, Frames, Pass};
@@ -38,6 +39,8 @@ pub(crate) enum Work {
     Put(Load),
     /// The pending list is moved there.
     Clean,
+    /// What is dead is taken out.
+    Vacuum,
 }
 
 impl Work {
@@ -47,7 +50,12 @@ impl Work {
             let (load, words) = Load::of(keys, words);
             return (Work::Put(load), words);
         }
-        (Work::Clean, words)
+        let work = if verb == "vacuum" {
+            Work::Vacuum
+        } else {
+            Work::Clean
+        };
+        (work, words)
     }
 }
 
@@ -95,6 +103,7 @@ fn do_once(
     match work {
         Work::Put(load) => put_all(alloc, frames, pass, load),
         Work::Clean => clean(alloc, frames, pass),
+        Work::Vacuum => vacuum(alloc, frames, pass),
     }
 }
 

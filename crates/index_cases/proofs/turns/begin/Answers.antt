@@ -1,0 +1,57 @@
+-- The pass is made two, of which one claims the right and begins the cleanup, and the other takes a snapshot.
+use Rattle.std.proofs.Common.{◌∙◌, ap, arith}
+use Rattle.buffer_frames.specs.declared.pass.Pass.{Pass}
+use Rattle.index_cases.proofs.TurnSteps.{claims, part_of, part_waits, scans_begun, cleanup_begins}
+use Rattle.index_cases.proofs.turns.begin.Goals as goal
+
+pub split-other-requires-clause-room : goal.split-other-requires-clause-room
+split-other-requires-clause-room g c =
+    let room = ap (λ (x : Pass). x.room) c.requires.fresh.whole in omega (arith, room)
+
+pub split-other-requires-clause-none : goal.split-other-requires-clause-none
+split-other-requires-clause-none g c = ap (λ (x : Pass). x.pin) c.requires.fresh.whole
+
+pub begin-requires-clause-right : goal.begin-requires-clause-right
+begin-requires-clause-right g c =
+    claims c.args.frames.now c.claim_work.new.self c.args.pass.now c.split-other.result c.claim_work.new.pass
+    c.requires.fresh.whole c.split-other.ensures.value c.claim_work.ensures.claimed
+
+pub begin-requires-clause-none : goal.begin-requires-clause-none
+begin-requires-clause-none g c =
+    ap (λ (x : Pass). x.held) c.claim_work.ensures.claimed.pass
+    ∙ ap (λ (x : Pass). x.held) c.split-other.ensures.value
+
+pub begin-requires-2-clause-pass : goal.begin-requires-2-clause-pass
+begin-requires-2-clause-pass g c =
+    part_waits g.D.Disk c.args.frames.now c.claim_work.new.self c.begin.new.frames c.split-other.new.pass
+    c.split-other.result c.claim_work.new.pass c.begin.new.pass
+    (part_of c.args.frames.now c.args.pass.now c.split-other.new.pass c.requires.fresh.whole
+    c.split-other.ensures.room.0) c.claim_work.ensures.claimed c.begin.ensures.reads c.split-other.ensures.old
+
+pub begin-requires-2-clause-none : goal.begin-requires-2-clause-none
+begin-requires-2-clause-none g c =
+    (part_of c.args.frames.now c.args.pass.now c.split-other.new.pass c.requires.fresh.whole
+    c.split-other.ensures.room.0).pin
+
+pub begin-requires-2-clause-held : goal.begin-requires-2-clause-held
+begin-requires-2-clause-held g c =
+    (part_of c.args.frames.now c.args.pass.now c.split-other.new.pass c.requires.fresh.whole
+    c.split-other.ensures.room.0).held
+
+pub returns-clause-scans : goal.returns-clause-scans
+returns-clause-scans g c =
+    let part = part_of c.args.frames.now c.args.pass.now c.split-other.new.pass c.requires.fresh.whole
+    c.split-other.ensures.room.0 in
+    let e = c.in_ok-scan.ensures in
+    let keeps = c.begin-2.ensures.reads.keeps in
+    scans_begun g.D.Disk c.begin-2.new.frames c.begin-2.new.pass c.args.query.now c.in_ok-scan.scan e.scanning e.query
+    e.walk (keeps.xid ∙ part.xid, keeps.work ∙ part.work)
+
+pub returns-clause-cleans : goal.returns-clause-cleans
+returns-clause-cleans g c =
+    cleanup_begins g.D.Disk c.args.frames.now c.claim_work.new.self c.begin.new.frames c.begin-2.new.frames
+    c.args.pass.now c.split-other.new.pass c.begin-2.new.pass c.split-other.result c.claim_work.new.pass
+    c.begin.new.pass c.in_ok-scan.scan.core.snapshot c.in_ok-cleanup.cleanup c.requires.fresh
+    c.split-other.ensures.value c.claim_work.ensures.claimed c.begin.ensures.reads c.begin.ensures.none_held
+    (c.in_ok-cleanup.ensures.cleaning.0, c.in_ok-cleanup.ensures.cleaning.2) c.in_ok-scan.ensures.pinned
+    c.begin-2.ensures.reads

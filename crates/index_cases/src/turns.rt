@@ -1,0 +1,282 @@
+// A scan and a cleanup in turn, by two passes over one store.
+ghost use Rattle.std.specs.Prelude.{◌≡◌, OnOk, IfOk, IfSome, false};
+ghost use Rattle.gin_scan.specs.Scanning.{IsAtEnd};
+ghost use Rattle.index_cases.specs.Turns.{AreFresh, Scans, Cleans};
+
+use crate::rows::Row;
+use crate::silent::Silent;
+use anyhow::{Result, bail};
+use bench_base::Bench;
+use buffer_frames::{Frames, Pass};
+use disk_trait::{Disk, MemoryDisk};
+use engine::{Name, WIDEST};
+use gin_cleanup::Cleanup;
+use gin_place::PlaceError;
+use gin_scan::{Scan, scans_go_on};
+use std::alloc::Global;
+use std::result;
+use ts_match::MatchWork;
+use ts_query::TsQuery;
+
+/// How many steps of a cleanup come before each further one of a scan, after those that it takes alone: none, one, some
+/// or all.
+const SHARES: [u32; 6] = [0, 1, 2, 3, 7, 1_000_000];
+
+/// More steps than a scan and a cleanup take here.
+const MOST_STEPS: u32 = 1_000_000;
+
+/// In what order steps are taken: so many of the scan, and then so many of the cleanup before each other one.
+#[derive(Clone, Copy)]
+struct Order {
+    lead: u32,
+    share: u32,
+}
+
+impl Order {
+    /// Whether the step of this number is the cleanup's.
+    fn is_cleanups(self, number: u32) -> bool {
+        match number.checked_sub(self.lead) {
+            Some(later) => later % self.share.saturating_add(1) != self.share,
+            None => false,
+        }
+    }
+}
+
+/// A scan and a cleanup, and how many steps were taken of each.
+#[derive(Drop)]
+struct Pair<'a> {
+    scan: Scan<'a>,
+    cleanup: Cleanup,
+    /// The steps of the scan.
+    steps: u32,
+    /// Those of the cleanup.
+    cleaned: u32,
+    // whether the cleanup has more
+    cleans: bool,
+}
+
+impl<'a> Pair<'a> {
+    /// Takes a step of the cleanup.
+    fn clean<D: Disk>(
+        &mut self,
+        alloc: Global,
+        frames: &mut Frames<D>,
+        pass: &Pass,
+        other: &mut Pass,
+    ) -> result::Result<(), PlaceError>
+        requires scans { Scans D.Disk frames.old pass.now self.old.scan }
+        requires cleans { Cleans D.Disk frames.old other.old self.old.cleanup }
+        ensures scans { OnOk result (Scans D.Disk frames.new pass.now self.new.scan) }
+        ensures cleans { OnOk result (Cleans D.Disk frames.new other.new self.new.cleanup) }
+    {
+        scans_go_on::<D, TsQuery, MatchWork>();
+        let more = self.cleanup.step(alloc, frames, other)?;
+        self.cleans = more;
+        self.cleaned = self.cleaned.saturating_add(1);
+        Ok(())
+    }
+
+    /// Takes a step of the scan: false where that was its last.
+    fn scan_on<D: Disk>(
+        &mut self,
+        alloc: Global,
+        frames: &mut Frames<D>,
+        pass: &mut Pass,
+        other: &Pass,
+    ) -> result::Result<bool, PlaceError>
+        requires scans { Scans D.Disk frames.old pass.old self.old.scan }
+        requires cleans { Cleans D.Disk frames.old other.now self.old.cleanup }
+        ensures scans { OnOk result (Scans D.Disk frames.new pass.new self.new.scan) }
+        ensures cleans { OnOk result (Cleans D.Disk frames.new other.now self.new.cleanup) }
+        ensures end { IfOk result (λ more. more ≡ false → IsAtEnd self.new.scan.core) }
+    {
+        let more = self.scan.step(alloc, frames, pass)?;
+        self.steps = self.steps.saturating_add(1);
+        Ok(more)
+    }
+
+    /// Takes a step of the cleanup, if it is its turn and it has more, or else of the scan: false where that was the
+    /// scan's last.
+    fn step<D: Disk>(
+        &mut self,
+        alloc: Global,
+        frames: &mut Frames<D>,
+        pass: &mut Pass,
+        other: &mut Pass,
+        is_cleanups: bool,
+    ) -> result::Result<bool, PlaceError>
+        requires scans { Scans D.Disk frames.old pass.old self.old.scan }
+        requires cleans { Cleans D.Disk frames.old other.old self.old.cleanup }
+        ensures scans { OnOk result (Scans D.Disk frames.new pass.new self.new.scan) }
+        ensures cleans { OnOk result (Cleans D.Disk frames.new other.new self.new.cleanup) }
+        ensures end { IfOk result (λ more. more ≡ false → IsAtEnd self.new.scan.core) }
+    {
+        if is_cleanups && self.cleans {
+            self.clean(alloc, frames, pass, other)?;
+            return Ok(true);
+        }
+        self.scan_on(alloc, frames, pass, other)
+    }
+
+    /// Takes all steps of the scan in this order.
+    fn go_on<D: Disk>(
+        &mut self,
+        alloc: Global,
+        frames: &mut Frames<D>,
+        pass: &mut Pass,
+        other: &mut Pass,
+        order: Order,
+    ) -> result::Result<(), PlaceError>
+        requires scans { Scans D.Disk frames.old pass.old self.old.scan }
+        requires cleans { Cleans D.Disk frames.old other.old self.old.cleanup }
+        ensures scans { OnOk result (Scans D.Disk frames.new pass.new self.new.scan) }
+        ensures end { OnOk result (IsAtEnd self.new.scan.core) }
+    {
+        for number in 0..MOST_STEPS {
+            let is_cleanups = order.is_cleanups(number);
+            if !self.step(alloc, frames, pass, other, is_cleanups)? {
+                return Ok(());
+            }
+        }
+        Err(PlaceError::OutOfMemory)
+    }
+}
+
+/// A scan for a query, and a cleanup with a pass of its own.
+fn begin<'a, D: Disk>(
+    alloc: Global,
+    frames: &mut Frames<D>,
+    pass: &mut Pass,
+    query: &'a TsQuery,
+) -> result::Result<(Pass, Pair<'a>), PlaceError>
+    requires fresh { AreFresh frames.old pass.old }
+    ensures scans { IfOk result (λ x. Scans D.Disk frames.new pass.new (x.1).scan) }
+    ensures cleans { IfOk result (λ x. Cleans D.Disk frames.new x.0 (x.1).cleanup) }
+{
+    let mut other = frames.split(pass);
+    frames.claim_work(&mut other);
+    let cleanup = Cleanup::begin(alloc, frames, &mut other)?;
+    let scan = Scan::begin(alloc, frames, pass, query)?;
+    let pair = Pair {
+        scan,
+        cleanup,
+        steps: 0,
+        cleaned: 0,
+        cleans: true,
+    };
+    Ok((other, pair))
+}
+
+/// What a scan finds that takes turns, and how many steps were taken.
+#[derive(Drop)]
+struct Turns {
+    /// The names.
+    names: Vec<Name>,
+    /// The steps of the scan.
+    steps: u32,
+    /// Those of the cleanup.
+    cleaned: u32,
+}
+
+/// What a scan for a query finds that takes turns with a cleanup.
+fn take_turns<D: Disk>(
+    alloc: Global,
+    frames: &mut Frames<D>,
+    pass: &mut Pass,
+    query: &TsQuery,
+    order: Order,
+) -> result::Result<Turns, PlaceError>
+    requires fresh { AreFresh frames.old pass.old }
+{
+    let (mut other, mut pair) = begin(alloc, frames, pass, query)?;
+    pair.go_on(alloc, frames, pass, &mut other, order)?;
+    let Pair {
+        scan,
+        steps,
+        cleaned,
+        ..
+    } = pair;
+    let names = scan.finish(frames, pass).names;
+    Ok(Turns {
+        names,
+        steps,
+        cleaned,
+    })
+}
+
+/// The pages of a device, and their pass, as they are opened.
+fn fresh(alloc: Global, disk: Silent) -> Option<(Frames<Silent>, Pass)>
+    ensures { IfSome result (λ x. AreFresh x.0 x.1) }
+{
+    match Frames::open(alloc, disk, &WIDEST) {
+        Ok(opened) => Some(opened),
+        Err(_) => None,
+    }
+}
+
+/// What such a scan finds over what is synced of a device.
+fn turns_on(alloc: Global, disk: &MemoryDisk, query: &TsQuery, order: Order) -> Option<Turns> {
+    let image = disk.image(alloc, disk.calls(), 0).ok()?;
+    let (mut frames, mut pass) = fresh(alloc, Silent(image))?;
+    take_turns(alloc, &mut frames, &mut pass, query, order).ok()
+}
+
+/// Counts of runs in which a scan and a cleanup take turns.
+#[derive(Clone, Copy, Default)]
+struct Counts {
+    /// The runs.
+    runs: u64,
+    /// Those in which the scan finds other names than alone, or is refused.
+    differ: u64,
+    /// The most steps of the cleanup.
+    cleaned: u32,
+}
+
+impl Counts {
+    /// One run more, which comes to this.
+    fn note(&mut self, turns: Option<Turns>, alone: &[Name]) {
+        self.runs = self.runs.saturating_add(1);
+        match turns {
+            Some(turns) if turns.names.as_slice() == alone => {
+                self.cleaned = self.cleaned.max(turns.cleaned);
+            }
+            _ => self.differ = self.differ.saturating_add(1),
+        }
+    }
+
+    /// The runs in which the scan takes so many steps alone.
+    fn note_shares(
+        &mut self,
+        alloc: Global,
+        disk: &MemoryDisk,
+        query: &TsQuery,
+        lead: u32,
+        alone: &[Name],
+    ) {
+        for share in SHARES {
+            self.note(turns_on(alloc, disk, query, Order { lead, share }), alone);
+        }
+    }
+}
+
+/// Prints how many names a scan for the query of a row finds, alone and in turn with a cleanup: in how many runs, how
+/// many find other names, and how many steps a cleanup takes at most.
+pub(crate) fn run(bench: &Bench<'_>, disk: &MemoryDisk, row: Row<'_>) -> Result<()> {
+    let alloc = bench.alloc();
+    let query = TsQuery::parse(alloc, row.words)?;
+    let alone = Order {
+        lead: MOST_STEPS,
+        share: 0,
+    };
+    let Some(alone) = turns_on(alloc, disk, &query, alone) else {
+        bail!("a scan is refused");
+    };
+    let mut counts = Counts::default();
+    for lead in 0..alone.steps {
+        counts.note_shares(alloc, disk, &query, lead, &alone.names);
+    }
+    bench.count(alone.names.len() as u64, row.title)?;
+    bench.count(counts.runs, "runs in turn with a cleanup")?;
+    bench.count(counts.differ, "of them find something else")?;
+    bench.count(u64::from(counts.cleaned), "steps of a cleanup at most")
+}
