@@ -41,6 +41,7 @@ insert a:1 | transactions spent
 delete 2/0#1 | transactions spent
 delete 2/2#3 | no document
 cleanup |
+vacuum |
 search a | 2/0#1 2/1#2";
 
 /// What is refused is never found. A cleanup has no room for its first record.
@@ -98,7 +99,10 @@ other delete 2/1#2 |
 search a | 2/2#3
 other search b | 2/3#4
 other cleanup |
-search a | 2/2#3";
+search a | 2/2#3
+other vacuum |
+insert c:1 | 2/0#5
+other search !b | 2/2#3 2/0#5";
 
 /// What a call answers.
 type Answer = Result<Vec<Name>, DbError>;
@@ -162,6 +166,10 @@ fn answer(alloc: Global, store: &mut Db<MemoryDisk>, pass: &mut Pass, call: &str
     }
     if verb == "cleanup" {
         store.cleanup(pass)?;
+        return Ok(Vec::new(alloc));
+    }
+    if verb == "vacuum" {
+        store.vacuum(pass)?;
         return Ok(Vec::new(alloc));
     }
     let (old, text) = if verb == "update" {

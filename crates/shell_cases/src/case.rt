@@ -4,7 +4,7 @@ use crate::edits::open_edits;
 use crate::runs::{PIECE, Script, Shell, empty, holding, log_of, only};
 use crate::short::expanded;
 use crate::tally::Tally;
-use crate::tidied::{CLEANUP, DONE, with_after_each};
+use crate::tidied::{DONE, with_after_each};
 use anyhow::{Context, Result, ensure};
 use disk_trait::{MemoryDisk, MemorySink};
 use shell_run::{NoGate, run_shell};
@@ -28,8 +28,8 @@ struct RunFiles<'a> {
     suffix: &'a str,
     /// Whether the texts are written short.
     short: bool,
-    /// Whether each statement of a session has a cleanup after it.
-    tidied: bool,
+    /// The statement of maintenance after each statement of a session, or nothing.
+    after: &'a str,
 }
 
 impl RunFiles<'_> {
@@ -69,16 +69,16 @@ impl RunFiles<'_> {
         }
     }
 
-    /// A text, if it is there, with this line after each line of a session, where it has cleanups.
+    /// A text, if it is there, with this word after each line of a session, where there is maintenance.
     fn tidied_text(
         &self,
         rt: &(impl Files + AllocGlobal),
         name: &str,
-        line: &str,
+        word: &str,
     ) -> Result<Option<Vec<u8>>> {
         match self.text(rt, name)? {
-            Some(bytes) if self.tidied => {
-                let text = with_after_each(rt.alloc(), str::from_utf8(&bytes)?, line)?;
+            Some(bytes) if !self.after.is_empty() => {
+                let text = with_after_each(rt.alloc(), str::from_utf8(&bytes)?, word)?;
                 Ok(Some(text.into_bytes()))
             }
             known => Ok(known),
@@ -99,7 +99,7 @@ impl RunFiles<'_> {
 
     /// What the run is given, if it has a script.
     fn inputs(&self, rt: &(impl Files + AllocGlobal)) -> Result<Option<Inputs>> {
-        let Some(script) = self.tidied_text(rt, "script", CLEANUP)? else {
+        let Some(script) = self.tidied_text(rt, "script", self.after)? else {
             return Ok(None);
         };
         let piece = self.number(rt, "piece")?.unwrap_or(PIECE as u64);
@@ -116,10 +116,10 @@ impl RunFiles<'_> {
     fn wanted(&self, rt: &(impl Files + AllocGlobal)) -> Result<Wanted> {
         let status = self.number(rt, "status")?;
         let text = self.tidied_text(rt, "expected", DONE)?;
-        let left = if self.tidied {
-            None
-        } else {
+        let left = if self.after.is_empty() {
             self.known(rt, "left")?
+        } else {
+            None
         };
         Ok(Wanted {
             status: status.context("a run ends with a status")?,
@@ -237,8 +237,31 @@ where
     Ok(store)
 }
 
-/// Runs a case: its runs, the edits of the log that they leave, and where it has the file `tidied` its runs once more,
-/// with cleanups.
+/// Runs the runs of a case once more for each of these words, which are statements of maintenance.
+fn run_tidied<R>(
+    shell: &Shell<'_, R>,
+    name: &str,
+    files: &RunFiles<'_>,
+    words: &str,
+    tally: &mut Tally,
+) -> Result<()>
+where
+    R: Threads + Wait + Sync + Print + AllocGlobal + Files,
+{
+    for word in words.split_whitespace() {
+        let tidied = RunFiles {
+            folder: files.folder,
+            suffix: files.suffix,
+            short: files.short,
+            after: word,
+        };
+        run_each(shell, name, &tidied, tally)?;
+    }
+    Ok(())
+}
+
+/// Runs a case: its runs, the edits of the log that they leave, and where it has the file `tidied` its runs once more
+/// for each word there, `cleanup` or `vacuum`, with that after each statement of a session.
 pub fn run_case<R>(
     shell: &Shell<'_, R>,
     name: &str,
@@ -252,16 +275,15 @@ where
         folder,
         suffix: "",
         short: false,
-        tidied: false,
+        after: "",
     };
     files.short = files.known(shell.rt, "short")?.is_some();
     let before = tally.runs;
     let mut store = run_each(shell, name, &files, tally)?;
     ensure!(tally.runs > before, "a case has a script");
     run_edits(shell, name, &files, &mut store, tally)?;
-    if files.known(shell.rt, "tidied")?.is_some() {
-        files.tidied = true;
-        run_each(shell, name, &files, tally)?;
+    match files.known(shell.rt, "tidied")? {
+        Some(words) => run_tidied(shell, name, &files, str::from_utf8(&words)?, tally),
+        None => Ok(()),
     }
-    Ok(())
 }
