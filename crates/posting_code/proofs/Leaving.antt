@@ -1,13 +1,7 @@
 -- Items of a list that are left, written one after the other.
-use Rattle.std.proofs.Common.{◌≡◌, ◌↔◌, ℕ, zero, suc, ◌+◌, ◌-◌, ◌<◌, ◌≤◌, List, [], ◌∷◌, ◌++◌, length, take, get_or}
-use Rattle.std.proofs.Common.{Result, Ok, Err, refl, sym, ap, subst, ◌∙◌, append_assoc, arith, inl, inr}
+use Rattle.std.proofs.Common.{◌≡◌, ◌↔◌, ℕ, ◌+◌, ◌-◌, ◌≤◌, List, [], ◌∷◌, ◌++◌, length, take}
+use Rattle.std.proofs.Common.{Ok, Err, refl, sym, ap, subst, ◌∙◌, append_assoc, arith, inl, inr}
 use Rattle.std.specs.List.{Contains}
-use Rattle.std.specs.Result.{is_ok}
-use Rattle.std.specs.Prelude.{IsTrue, Bool}
-use Rattle.std.specs.Ordering.{nat_cmp}
-use Rattle.std.specs.List.Sorted.{IsBinarySearchResult}
-use Rattle.std.proofs.lemmas.Bool.{cases_lt, false≢true}
-use Rattle.std.proofs.lemmas.List.Sorted.{searched}
 use Rattle.std.proofs.lemmas.List.{append-nil, length-append, take-take, take_at}
 use Rattle.std.proofs.lemmas.List.Elements.{Contains-append_left, Contains-push, Contains-push_cases}
 use Rattle.page_types.specs.Items.{varbyte, item_list_from, item_list, AreItemsFrom, AreItems, items_of, IsItemList}
@@ -18,48 +12,6 @@ use Rattle.posting_code.specs.Inner.Places.{items_left, IsListAfter}
 use Rattle.posting_code.proofs.Places.{whole_place, next_place, no_place, AreItemsFrom-join, item_list_from-append}
 use Rattle.posting_code.proofs.Uniting.{last_or-append}
 use Rattle.posting_code.proofs.Sizing.{fewer_shorter}
-
--- ---- a set
-
--- items rise by their places
-pub rises_by_place : (last : ℕ) (is : List ℕ) → AreItemsFrom last is → (i j : ℕ) → i ≤ j → j < length is
-    → get_or is i 0 ≤ get_or is j 0
-rises_by_place last [] h i j le lt = absurd (omega arith)
-rises_by_place last (x ∷ is) h zero zero le lt = omega arith
-rises_by_place last (x ∷ is) h zero (suc j) le lt = omega (arith, above_at x is h.2 j (omega arith))
-  where
-    above_at : (x : ℕ) (is : List ℕ) → AreItemsFrom x is → (j : ℕ) → j < length is → x < get_or is j 0
-    above_at x [] h j lt = absurd (omega arith)
-    above_at x (y ∷ ys) h zero lt = h.0
-    above_at x (y ∷ ys) h (suc j) lt = omega (arith, h.0, above_at y ys h.2 j (omega arith))
-rises_by_place last (x ∷ is) h (suc i) zero le lt = absurd (omega arith)
-rises_by_place last (x ∷ is) h (suc i) (suc j) le lt = rises_by_place x is h.2 i j (omega arith) (omega arith)
-
-same_at : (xs : List ℕ) (k c d : ℕ) → k < length xs → get_or xs k c ≡ get_or xs k d
-same_at [] k c d lt = absurd (omega arith)
-same_at (x ∷ xs) zero c d lt = refl
-same_at (x ∷ xs) (suc k) c d lt = same_at xs k c d (omega arith)
-
--- what a binary search says
-pub set_has : (xs : List ℕ) (x : ℕ) (r : Result ℕ ℕ) (b : Bool) → AreItems xs
-    → IsBinarySearchResult (λ y. nat_cmp y x) xs r → b ≡ is_ok r → IsTrue b ↔ Contains xs x
-set_has xs x (Ok i) b h found is =
-    let at = searched xs x (Ok i) found (rises_by_place 0 xs h) in
-    (λ e. (i, at.0, same_at xs i x 0 at.0 ∙ at.1), λ c. is)
-set_has xs x (Err i) b h found is =
-    let at = searched xs x (Err i) found (rises_by_place 0 xs h) in
-    (λ e. absurd (false≢true (sym is ∙ e)), λ c. absurd (elsewhere at.1 at.2 c))
-  where
-    elsewhere : ((k : ℕ) → k < i → get_or xs k 0 < x) → ((k : ℕ) → i ≤ k → k < length xs → x < get_or xs k 0)
-        → Contains xs x → ⊥
-    elsewhere low high (k, lt, e) =
-        let here : get_or xs k 0 ≡ x = same_at xs k 0 x lt ∙ e in
-        elim (cases_lt k i) [
-          | inl below ↦ absurd (omega (arith, low k below, here))
-          | inr above ↦ absurd (omega (arith, high k above lt, here))
-        ]
-
--- ---- what is left
 
 -- the items up to a place that are not dead are written
 pub record IsLeaving (start list dead out : List ℕ) (before : ℕ) (rest : List ℕ) (last count : ℕ) : Type 0 where

@@ -6,3 +6,4 @@ pub mod Taking
 pub mod Sizing
 pub mod Leaving
 pub mod Cutting
+pub mod Windows

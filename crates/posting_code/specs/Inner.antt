@@ -1,4 +1,5 @@
--- Places in a list, and how an iterator over one is.
+-- Places in a list, how an iterator over one is, and where an item is sought.
 pub mod Places
 pub mod States
 pub mod Searching
+pub mod Windows

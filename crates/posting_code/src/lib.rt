@@ -10,6 +10,7 @@ mod error;
 mod items;
 mod merging;
 mod removing;
+mod searching;
 mod walking;
 mod writing;
 

@@ -4,6 +4,7 @@ ghost use Rattle.std.specs.List.{Contains};
 ghost use Rattle.page_types.specs.Items.{items_of, AreItems, IsItemList};
 ghost use Rattle.posting_code.specs.Uniting.{IsLeft};
 
+use crate::searching::{below, starts_of, window_of};
 use crate::writing::put_varbyte;
 use page_types::next_item;
 use std::alloc::AllocError;
@@ -13,17 +14,20 @@ use std::marker::Model;
 #[derive(Debug, Drop)]
 pub struct ItemSet {
     inner: Vec<u32>,
+    // of each heap page up to the one after the last item's how many items are before it, where memory was for that
+    starts: Vec<u32>,
 }
 
 impl Model for ItemSet {
     ghost use Rattle.std.specs.Prelude.{List, ℕ};
     ghost use Rattle.page_types.specs.Items.{AreItems};
+    ghost use Rattle.posting_code.specs.Inner.Windows.{AreStarts};
 
     ghost Value = { List ℕ };
 
     ghost view = { λ s. s.inner.items };
 
-    ghost invariant = { λ s. AreItems s.inner.items };
+    ghost invariant = { λ s. AreItems s.inner.items × AreStarts s.inner.items s.starts.items };
 }
 
 impl ItemSet {
@@ -32,14 +36,30 @@ impl ItemSet {
         requires { AreItems items.items }
         ensures { result ≡ items.items }
     {
-        ItemSet { inner: items }
+        let alloc = *items.allocator();
+        let starts = match starts_of(alloc, &items) {
+            Ok(starts) => starts,
+            Err(_) => Vec::new(alloc),
+        };
+        ItemSet {
+            inner: items,
+            starts,
+        }
     }
 
     /// Whether an item is one of them. It takes no memory.
     pub fn has(&self, item: u32) -> bool
         ensures { IsTrue result ↔ Contains self.now item }
     {
-        self.inner.binary_search(&item).is_ok()
+        let place = below(
+            &self.inner,
+            item,
+            window_of(&self.inner, &self.starts, item),
+        );
+        match self.inner.get(place) {
+            Some(found) => *found == item,
+            None => false,
+        }
     }
 
     /// The items, which rise.
