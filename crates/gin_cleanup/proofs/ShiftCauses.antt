@@ -6,6 +6,7 @@ use Rattle.disk_trait.specs.declared.device.Disk.{Ghosts as Disk}
 use Rattle.wal.specs.Waiting.{limit_of, length_with, down_of}
 use Rattle.page_types.specs.declared.record.Kind.TheVariants as kind
 use Rattle.core_state.specs.Allowed.{Step}
+use Rattle.buffer_frames.specs.Drawing.{HasEncoding}
 use Rattle.buffer_frames.specs.Journals.{logged_bytes, next_record}
 use Rattle.buffer_frames.specs.LogCauses.{WriteHasCause, LogFullWhere}
 use Rattle.buffer_frames.specs.Frames.{FramesValue}
@@ -30,17 +31,17 @@ module _ {D : Type 0} (device : Disk D) (f : FramesValue D) (p : Pass) where
 
   -- the Shift is not logged
   pub shift_cause : (g : FramesValue D) (step : Step) {T : Type 0} (r : Result T LogError) (w : LogError)
-      → step.kind ≡ kind.Shift → length step.after ≤ 2 → r ≡ Err w
+      → step.kind ≡ kind.Shift → HasEncoding step → length step.after ≤ 2 → r ≡ Err w
       → LogFullWhere (limit_of f.journal.wal)
       (length_with f.journal.wal (logged_bytes f.journal (next_record f.journal step))) r
       → ((n : ℕ) → (r ≡ Err (logs.Down n)) ↔ (down_of f.journal.wal ≡ Some n))
       → WriteHasCause device f.journal.disk g.journal.disk r
       → IsCause device g (log_refusal w) f p
-  shift_cause g step r logs.DiskFault shift few is full down cause = cause.fault is
-  shift_cause g step {T} r logs.LogFull shift few is full down cause =
+  shift_cause g step r logs.DiskFault shift encoded few is full down cause = cause.fault is
+  shift_cause g step {T} r logs.LogFull shift encoded few is full down cause =
       let over = subst (LogFullWhere {T = T} (limit_of f.journal.wal)
       (length_with f.journal.wal (logged_bytes f.journal (next_record f.journal step)))) is full in
-      inr (record { step = step; shift = shift; pages = few; over = over })
-  shift_cause g step r (logs.Down n) shift few is full down cause = (down n).0 is
-  shift_cause g step r logs.XidsSpent shift few is full down cause = tt
-  shift_cause g step r logs.OutOfMemory shift few is full down cause = tt
+      inr (record { step = step; shift = shift; encoded = encoded; pages = few; over = over })
+  shift_cause g step r (logs.Down n) shift encoded few is full down cause = (down n).0 is
+  shift_cause g step r logs.XidsSpent shift encoded few is full down cause = tt
+  shift_cause g step r logs.OutOfMemory shift encoded few is full down cause = tt

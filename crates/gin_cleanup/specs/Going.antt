@@ -12,6 +12,7 @@ use Rattle.ts_base.specs.Keys.{Key}
 use Rattle.core_state.specs.Log.{Log, In}
 use Rattle.core_state.specs.Allowed.{Step}
 use Rattle.core_state.specs.History.{History, IsHistory}
+use Rattle.buffer_frames.specs.Drawing.{HasEncoding}
 use Rattle.buffer_frames.specs.Journals.{logged_bytes, next_record}
 use Rattle.buffer_frames.specs.Frames.{FramesValue, Behind}
 use Rattle.buffer_frames.specs.Passes.{IsPassOf, GoesOnBy, HasAdded, PassRises}
@@ -61,10 +62,11 @@ pub data IsBadList {D : Type 0} (device : Disk D) (f : FramesValue D) (pass : Pa
   rows : CannotUse f IsRowPage p → Behind device f (λ (R : Log). ⊥) → IsBadList device f pass p
   place : (key : List ℕ) → IsBadIn device key f pass p → IsBadList device f pass p
 
--- the log would pass its limit with the record of a Shift
+-- the log would pass its limit with the record of a Shift that has one
 pub record HasNoRoomToShift {D : Type 0} (f : FramesValue D) : Type 0 where
   pub step : Step
   pub shift : step.kind ≡ kind.Shift
+  pub encoded : HasEncoding step
   pub pages : length step.after ≤ 2
   pub over : limit_of f.journal.wal < length_with f.journal.wal (logged_bytes f.journal (next_record f.journal step))
 

@@ -11,6 +11,7 @@ use Rattle.core_state.specs.Legal.{IsLegal}
 use Rattle.core_state.specs.Allowed.{Sheet, Step}
 use Rattle.core_state.specs.States.{StateValue}
 use Rattle.page_space.specs.Taking.{IsTaken, HasNoPage}
+use Rattle.buffer_frames.specs.Drawing.{HasEncoding}
 use Rattle.buffer_frames.specs.Homes.{IsNoPage, BadPageWhere}
 use Rattle.buffer_frames.specs.Journals.{logged_bytes, next_record}
 use Rattle.buffer_frames.specs.LogCauses.{HoldHasCause, WriteHasCause, LogFullWhere}
@@ -212,16 +213,16 @@ module _ {D : Type 0} (device : Disk D) where
   look_down f r w is down n = (n.0, ap frame_refusal n.1, (down n.0).0 (is ∙ ap Err n.1))
 
   pub log_cause : (f g : FramesValue D) (p : Pass) (step : Step) {T : Type 0} (r : Result T LogError) (w : LogError)
-      → IsPlacingKind (kind_number step.kind) → length step.after ≤ 3 → r ≡ Err w
+      → IsPlacingKind (kind_number step.kind) → HasEncoding step → length step.after ≤ 3 → r ≡ Err w
       → LogFullWhere (limit_of f.journal.wal)
       (length_with f.journal.wal (logged_bytes f.journal (next_record f.journal step))) r
       → ((n : ℕ) → (r ≡ Err (logs.Down n)) ↔ (down_of f.journal.wal ≡ Some n))
       → WriteHasCause device f.journal.disk g.journal.disk r → CannotLog device g (log_refusal w) f p
-  log_cause f g p step r logs.DiskFault placing few is full down cause = cause.fault is
-  log_cause f g p step {T} r logs.LogFull placing few is full down cause =
+  log_cause f g p step r logs.DiskFault placing encoded few is full down cause = cause.fault is
+  log_cause f g p step {T} r logs.LogFull placing encoded few is full down cause =
       let over = subst (LogFullWhere {T = T} (limit_of f.journal.wal)
       (length_with f.journal.wal (logged_bytes f.journal (next_record f.journal step)))) is full in
-      record { step = step; placing = placing; pages = few; over = over }
-  log_cause f g p step r (logs.Down n) placing few is full down cause = (down n).0 is
-  log_cause f g p step r logs.XidsSpent placing few is full down cause = tt
-  log_cause f g p step r logs.OutOfMemory placing few is full down cause = tt
+      record { step = step; placing = placing; encoded = encoded; pages = few; over = over }
+  log_cause f g p step r (logs.Down n) placing encoded few is full down cause = (down n).0 is
+  log_cause f g p step r logs.XidsSpent placing encoded few is full down cause = tt
+  log_cause f g p step r logs.OutOfMemory placing encoded few is full down cause = tt

@@ -1,5 +1,5 @@
 -- The step by which a page of a tree is split.
-use Rattle.std.proofs.Common.{◌≡◌, ◌≢◌, ◌<◌, ◌≤◌, ◌^◌, ℕ, List, [], ◌∷◌, length, refl, sym, ap, subst, ◌∙◌}
+use Rattle.std.proofs.Common.{◌≡◌, ◌≢◌, ◌<◌, ◌≤◌, ◌^◌, ℕ, List, [], ◌∷◌, length, refl, sym, ap, subst}
 use Rattle.std.proofs.Common.{inl, inr, arith}
 use Rattle.std.specs.List.{AllByRecursion}
 use Rattle.disk_trait.specs.declared.device.Disk.{Ghosts as Disk}
@@ -8,7 +8,6 @@ use Rattle.page_types.specs.Keys.{Rising}
 use Rattle.page_types.specs.Pages.{IsPage}
 use Rattle.page_types.specs.Records.{IsKind, kind_number}
 use Rattle.page_types.specs.declared.page.Page.{Page}
-use Rattle.page_types.specs.declared.page.Body.TheVariants as body
 use Rattle.page_types.specs.declared.record.Kind.{Kind}
 use Rattle.page_types.specs.declared.record.Kind.TheVariants as kind
 use Rattle.page_types.specs.declared.record.Record.{Record}
@@ -30,8 +29,7 @@ use Rattle.buffer_frames.specs.declared.pass.Pass.{Pass}
 use Rattle.gin_place.specs.Going.{IsPlacingKind}
 use Rattle.gin_place.specs.Placing.{HasRight}
 use Rattle.gin_place.specs.Holding.{IsNewHeld}
-use Rattle.gin_place.specs.Inner.Dividing.{AreSplit}
-use Rattle.gin_place.specs.Inner.Logging.{MayLogStep, Adopts, AreSplitIn, IsSplitStep}
+use Rattle.gin_place.specs.Inner.Logging.{MayLogStep, AreSplitIn, IsSplitStep}
 use Rattle.gin_place.specs.declared.sought.Sought.{Sought}
 use Rattle.gin_place.specs.declared.sought.Sought.TheVariants as sought
 use Rattle.gin_place.proofs.Owing.{owes_of}
@@ -54,36 +52,6 @@ split_made t old new above left right adopted s parts made = record {
   after_is = ap (λ (t : Step). t.after) made;
   split = parts;
 }
-
--- the parent that has taken the new page is used
-pub adopted_used : (t : Sought) (page new : ℕ) (left parent adopted : Page) → Adopts t page new left parent adopted
-    → adopted.body ≢ body.Free
-adopted_used sought.Key page new left parent adopted a free =
-    let e : body.EntryInner _ ≡ body.Free = sym a.after ∙ free in let z : ⊥ = cc in z
-adopted_used (sought.Item root item) page new left parent adopted a free =
-    let e : body.PostInner _ ≡ body.Free = sym a.after ∙ free in let z : ⊥ = cc in z
-
--- the parts of the page that is held, and its parent with the new page
-pub parts_in : (t : Sought) (old new above : Sheet) (c p : Page) (number n : ℕ) (left right adopted : Page)
-    → c ≡ old.content → p ≡ above.content → number ≡ old.page → n ≡ new.page → AreSplit t c n left right
-    → Adopts t number n left p adopted → adopted ≡ record p { body = adopted.body } → IsPage adopted
-    → AreSplitIn t old new above left right adopted
-parts_in t old new above c p number n left right adopted is above_is at at_new parts adopts same ok =
-    let x = subst (λ (m : ℕ). AreSplit t old.content m left right) at_new
-    (subst (λ (y : Page). AreSplit t y n left right) is parts) in
-    let a = subst (λ (y : Page). Adopts t number n left y adopted) above_is adopts in
-    let b = subst (λ (m : ℕ). Adopts t m n left above.content adopted) at a in
-    let d = subst (λ (m : ℕ). Adopts t old.page m left above.content adopted) at_new b in
-    record {
-      keep = x.keep;
-      on_tree = x.on_tree;
-      large = x.large;
-      parts = x.parts;
-      adopts = d;
-      same = subst (λ (y : Page). adopted ≡ record y { body = adopted.body }) above_is same;
-      pages = (x.pages.0, x.pages.1, ok);
-      used = (x.used.0, x.used.1, adopted_used t old.page new.page left above.content adopted d);
-    }
 
 -- the pages of either tree are what a Split asks of its pages
 split_in : (t : Sought) → entry_laws.SplitPagesAreLogged → post_laws.SplitPagesAreLogged → (k : Known) (r : Record)

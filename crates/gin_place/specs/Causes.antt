@@ -14,9 +14,12 @@ use Rattle.core_state.specs.PageChoice.{IsLeast, AreBelow}
 use Rattle.core_state.specs.TreeRules.{half_body}
 use Rattle.posting_code.specs.declared.dividing.Keep.{Keep}
 use Rattle.page_space.specs.Taking.{IsTaken, HasNoPage}
+use Rattle.snap_pins.specs.Taken as pins
+use Rattle.snap_pins.specs.declared.Pin.{Pin}
 use Rattle.entry_tree.specs.Reading as entry_rooms
 use Rattle.entry_tree.specs.Splitting.{AreParts}
 use Rattle.posting_tree.specs.Reading as post_rooms
+use Rattle.buffer_frames.specs.Drawing.{HasEncoding}
 use Rattle.buffer_frames.specs.Homes.{IsNoPage}
 use Rattle.buffer_frames.specs.Journals.{logged_bytes, next_record}
 use Rattle.buffer_frames.specs.Frames.{FramesValue, Lies, Behind}
@@ -61,10 +64,11 @@ CanGrow s c = IsTreeBody s c.body × (half_body < length (body_bytes c.body)) ×
 abbrev pub CanDivide : Sought → Page → Type 0
 CanDivide s c = IsTreeBody s c.body × (half_body < length (body_bytes c.body)) × (2 ≤ count_of c.body)
 
--- the log would pass its limit with the record of a step by which items come into the tree
+-- the log would pass its limit with the record of a step that has one, by which items come into the tree
 pub record HasNoRoom {D : Type 0} (f : FramesValue D) : Type 0 where
   pub step : Step
   pub placing : IsPlacingKind (kind_number step.kind)
+  pub encoded : HasEncoding step
   pub pages : length step.after ≤ 3
   pub over : limit_of f.journal.wal < length_with f.journal.wal (logged_bytes f.journal (next_record f.journal step))
 
@@ -125,6 +129,10 @@ NoBadPage device f e = ⊤
 abbrev pub IsBadIn : {D : Type 0} → Disk D → List ℕ → FramesValue D → Pass → ℕ → Type 0
 IsBadIn device key f pass p = (s : Placing) × IsBad device key s f pass p
 
+-- the pass takes deleted pages again as far as the snapshots in use allow it
+abbrev pub HasLatestSince : {D : Type 0} → FramesValue D → Pass → Type 0
+HasLatestSince f pass = pins.IsLeast f.pins (λ (p : Pin). p.length) f.journal.state.records pass.since
+
 -- a page that is new was left when the call took one
 abbrev pub HadPage : {D : Type 0} → Disk D → FramesValue D → Pass → Type 0
 HadPage device f pass = Meets device f pass (λ g q. HasNoPage g.journal.state q.since → ⊥)
@@ -137,7 +145,7 @@ module _ {D : Type 0} (device : Disk D) where
   -- Why a call is refused that leaves the frames so, where `Bad` is said of bad pages. The store is full where no
   -- new page is left, and only there.
   abbrev pub IsWhy : (FramesValue D → Pass → ℕ → Type 0) → FramesValue D → PlaceError → FramesValue D → Pass → Type 0
-  IsWhy Bad left StoreFull f pass = HasNoPage f.journal.state pass.since
+  IsWhy Bad left StoreFull f pass = HasLatestSince f pass × HasNoPage f.journal.state pass.since
   IsWhy Bad left LogFull f pass = HasNoRoom f
   IsWhy Bad left DiskFault f pass = HasFault f left
   IsWhy Bad left (Down fault) f pass = down_of f.journal.wal ≡ Some fault

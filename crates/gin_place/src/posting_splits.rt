@@ -10,18 +10,16 @@ ghost use Rattle.core_state.specs.TreeRules.{PostParent};
 ghost use Rattle.posting_tree.specs.Reading.{IsPostBody};
 ghost use Rattle.gin_place.specs.Adopting.{DividesItems, CanTakeItem};
 ghost use Rattle.gin_place.specs.Causes.{CanDivide};
-ghost use Rattle.gin_place.specs.Inner.Dividing.{AreSplit, PassedItem, BarsItem, WhyNoSplit};
-ghost use Rattle.gin_place.specs.Inner.Logging.{AreSplitIn};
+ghost use Rattle.gin_place.specs.Inner.Dividing.{AreSplit, PassedItem, BarsItem};
 ghost use Rattle.gin_place.specs.declared.error.PlaceError.TheVariants.{OutOfMemory};
 ghost use Rattle.gin_place.specs.declared.sought.Sought.TheVariants as soughts;
 
 use crate::error::PlaceError;
 use crate::growing::is_large;
-use crate::logging::Three;
 use crate::sought::Sought;
 use page_types::{Body, Page, PostChild};
 use posting_code::{Items, Keep};
-use posting_tree::{adopt, has_room, split, upper};
+use posting_tree::{adopt, has_room, split};
 use std::alloc::{AllocError, Global};
 
 /// How many items a list has, and the last of them, 0 where there is none.
@@ -58,7 +56,7 @@ fn is_under_last(children: &[PostChild], item: u32) -> bool {
 /// The two parts of a page of a posting tree that is large; none of another. The first keeps most where
 /// the item to come is after all that the page has, so that pages stay full where items come in order;
 /// else half.
-fn parts_of(
+pub(crate) fn parts_of(
     alloc: Global,
     root: u32,
     item: u32,
@@ -116,7 +114,12 @@ fn divides(children: &[PostChild], page: u32, mid: u32) -> bool
 
 /// The parent with the new page after the page that is split; none where the item does not divide what is
 /// below that page, or the parent has no room.
-fn adopting(parent: &Page, page: u32, new: u32, mid: u32) -> Result<Option<Page>, PlaceError>
+pub(crate) fn adopting(
+    parent: &Page,
+    page: u32,
+    new: u32,
+    mid: u32,
+) -> Result<Option<Page>, PlaceError>
     requires parent { IsPage parent.now }
     requires item { mid < item_limit }
     requires new { new < page_limit }
@@ -134,28 +137,4 @@ fn adopting(parent: &Page, page: u32, new: u32, mid: u32) -> Result<Option<Page>
         return Ok(None);
     }
     Ok(adopt(parent, page, new, mid)?)
-}
-
-/// The two parts of a page of a posting tree, and its parent with the new page.
-pub(crate) fn posting_parts(
-    alloc: Global,
-    root: u32,
-    item: u32,
-    three: &Three,
-) -> Result<(Page, Page, Page), PlaceError>
-    requires { three.now.new.page ≢ 0 }
-    ensures parts { IfOk result (λ r. AreSplitIn (soughts.Item root item) three.now.page three.now.new
-        three.now.parent r.0 r.1 r.2) }
-    ensures page { OnOk result (IsPage three.now.page.content) }
-    ensures cause { IfErr result (WhyNoSplit (soughts.Item root item) three.now.page three.now.parent) }
-{
-    let (page, new, parent) = (&three.page, &three.new, &three.parent);
-    let (number, new_number, above) = (page.number(), new.number(), parent.number());
-    let Some((left, right)) = parts_of(alloc, root, item, page.page(), new_number)? else {
-        return Err(PlaceError::BadPage { page: number });
-    };
-    let Some(adopted) = adopting(parent.page(), number, new_number, upper(&left))? else {
-        return Err(PlaceError::BadPage { page: above });
-    };
-    Ok((left, right, adopted))
 }

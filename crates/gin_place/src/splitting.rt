@@ -19,8 +19,8 @@ ghost use Rattle.gin_place.specs.Causes.{CanDivide, HadPage};
 ghost use Rattle.gin_place.specs.Faults.{MetNoFault, FaultBy};
 ghost use Rattle.gin_place.specs.Holding.{ReadsOn, IsNewHeld};
 ghost use Rattle.gin_place.specs.Inner.Making.{WhyNoRoom};
-ghost use Rattle.gin_place.specs.Inner.Logging.{AreSplitIn, IsSplitStep};
-ghost use Rattle.gin_place.specs.Inner.Dividing.{AreSplit, Passed, Bars, WhyNoSplit};
+ghost use Rattle.gin_place.specs.Inner.Logging.{Adopts, AreSplitIn, IsSplitStep};
+ghost use Rattle.gin_place.specs.Inner.Dividing.{AreSplit, EndsWithin, Takes, Passed, Bars, WhyNoSplit, WhyNotAdopted};
 ghost use Rattle.gin_place.specs.declared.error.PlaceError.TheVariants.{OutOfMemory};
 ghost use Rattle.gin_place.specs.declared.sought.Sought.{Sought as SoughtValue};
 ghost use Rattle.gin_place.specs.declared.sought.Sought.TheVariants as soughts;
@@ -29,7 +29,7 @@ use crate::error::PlaceError;
 use crate::growing::is_large;
 use crate::holding::{hold_new, hold_page};
 use crate::logging::{Three, give_back, log_three, release, three_step};
-use crate::posting_splits::posting_parts;
+use crate::posting_splits;
 use crate::sought::Sought;
 use buffer_frames::{Frames, Pass, Step};
 use core_maintenance::{tree_pages_serve, tree_steps_hold};
@@ -199,31 +199,99 @@ fn parts_of<Q, W: Meaning<Q>, C: CompareKeys, J: Judge<Q, W>>(
     Ok(Some(split(alloc, page, new, keep_for(page, class, key))?))
 }
 
-/// The two parts of a page of the entry tree, and its parent with the new page.
-fn entry_parts<Q, W: Meaning<Q>, C: CompareKeys, J: Judge<Q, W>>(
+/// The two parts of a page of the tree where something is sought, where it is large; none of another.
+fn tree_halves<Q, W: Meaning<Q>, C: CompareKeys, J: Judge<Q, W>>(
     alloc: Global,
     class: &OpClass<Q, W, C, J>,
     key: &[u8],
-    three: &Three,
-) -> Result<(Page, Page, Page), PlaceError>
-    requires { three.now.new.page ≢ 0 }
-    ensures parts { IfOk result (λ r. AreSplitIn soughts.Key three.now.page three.now.new three.now.parent
-        r.0 r.1 r.2) }
-    ensures page { OnOk result (IsPage three.now.page.content) }
-    ensures cause { IfErr result (WhyNoSplit soughts.Key three.now.page three.now.parent) }
+    sought: Sought,
+    page: &Page,
+    new: u32,
+) -> Result<Option<(Page, Page)>, AllocError>
+    requires page { IsPage page.now }
+    requires new { (new ≢ 0) × (new < page_limit) }
+    ensures parts { IfOk result (λ o. IfSome o (λ r. AreSplit sought page.now new r.0 r.1)) }
+    ensures none { IfOk result (λ o. IfNone o (CanDivide sought page.now → ⊥)) }
 {
-    let (page, new, parent) = (&three.page, &three.new, &three.parent);
-    let (number, new_number, above) = (page.number(), new.number(), parent.number());
-    let Some((left, right)) = parts_of(alloc, class, key, page.page(), new_number)? else {
-        return Err(PlaceError::BadPage { page: number });
-    };
-    let Some(adopted) = adopting(parent.page(), class, number, new_number, upper(&left))? else {
-        return Err(PlaceError::BadPage { page: above });
-    };
-    Ok((left, right, adopted))
+    match sought {
+        Sought::Key => parts_of(alloc, class, key, page, new),
+        Sought::Item { root, item } => posting_splits::parts_of(alloc, root, item, page, new),
+    }
 }
 
-/// Likewise of the tree where something is sought.
+/// The parent with the new page after the page whose first part is this; none where what that part ends
+/// with does not divide what is below the page, or the parent has no room.
+fn tree_adopting<Q, W: Meaning<Q>, C: CompareKeys, J: Judge<Q, W>>(
+    parent: &Page,
+    class: &OpClass<Q, W, C, J>,
+    sought: Sought,
+    page: u32,
+    new: u32,
+    left: &Page,
+) -> Result<Option<Page>, PlaceError>
+    requires parent { IsPage parent.now }
+    requires ends { EndsWithin sought left.now }
+    requires new { new < page_limit }
+    ensures adopts { IfOk result (λ o. IfSome o (λ p. Adopts sought page new left.now parent.now p)) }
+    ensures same { IfOk result (λ o. IfSome o (λ p. p ≡ record parent.now { body = p.body })) }
+    ensures is_page { IfOk result (λ o. IfSome o (λ p. IsPage p)) }
+    ensures none { IfOk result (λ o. IfNone o (Takes sought page left.now parent.now → ⊥)) }
+    ensures cause { IfErr result (λ e. e ≡ OutOfMemory) }
+{
+    match sought {
+        Sought::Key => adopting(parent, class, page, new, upper(left)),
+        Sought::Item { .. } => {
+            posting_splits::adopting(parent, page, new, posting_tree::upper(left))
+        }
+    }
+}
+
+/// The two parts of the page that is held.
+fn held_halves<Q, W: Meaning<Q>, C: CompareKeys, J: Judge<Q, W>>(
+    alloc: Global,
+    class: &OpClass<Q, W, C, J>,
+    key: &[u8],
+    sought: Sought,
+    three: &Three,
+) -> Result<(Page, Page), PlaceError>
+    requires { three.now.new.page ≢ 0 }
+    ensures parts { IfOk result (λ r. AreSplit sought three.now.page.content three.now.new.page r.0 r.1) }
+    ensures page { OnOk result (IsPage three.now.page.content) }
+    ensures cause { IfErr result (WhyNoSplit sought three.now.page three.now.parent) }
+{
+    let (page, new) = (&three.page, three.new.number());
+    match tree_halves(alloc, class, key, sought, page.page(), new)? {
+        Some(halves) => Ok(halves),
+        None => Err(PlaceError::BadPage {
+            page: page.number(),
+        }),
+    }
+}
+
+/// The parent that is held, with the new page after the page whose first part is this.
+fn held_parent<Q, W: Meaning<Q>, C: CompareKeys, J: Judge<Q, W>>(
+    class: &OpClass<Q, W, C, J>,
+    sought: Sought,
+    left: &Page,
+    three: &Three,
+) -> Result<Page, PlaceError>
+    requires { EndsWithin sought left.now }
+    ensures adopts { IfOk result
+        (λ p. Adopts sought three.now.page.page three.now.new.page left.now three.now.parent.content p) }
+    ensures same { IfOk result (λ p. p ≡ record three.now.parent.content { body = p.body }) }
+    ensures is_page { IfOk result IsPage }
+    ensures cause { IfErr result (WhyNotAdopted sought three.now.page.page left.now three.now.parent) }
+{
+    let (page, new, parent) = (three.page.number(), three.new.number(), &three.parent);
+    match tree_adopting(parent.page(), class, sought, page, new, left)? {
+        Some(adopted) => Ok(adopted),
+        None => Err(PlaceError::BadPage {
+            page: parent.number(),
+        }),
+    }
+}
+
+/// The two parts of the page that is held, and its parent with the new page.
 fn tree_parts<Q, W: Meaning<Q>, C: CompareKeys, J: Judge<Q, W>>(
     alloc: Global,
     class: &OpClass<Q, W, C, J>,
@@ -236,9 +304,10 @@ fn tree_parts<Q, W: Meaning<Q>, C: CompareKeys, J: Judge<Q, W>>(
     ensures page { OnOk result (IsPage three.now.page.content) }
     ensures cause { IfErr result (WhyNoSplit sought three.now.page three.now.parent) }
 {
-    match sought {
-        Sought::Key => entry_parts(alloc, class, key, three),
-        Sought::Item { root, item } => posting_parts(alloc, root, item, three),
+    let (left, right) = held_halves(alloc, class, key, sought, three)?;
+    match held_parent(class, sought, &left, three) {
+        Ok(adopted) => Ok((left, right, adopted)),
+        Err(error) => Err(error),
     }
 }
 

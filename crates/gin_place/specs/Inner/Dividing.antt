@@ -43,6 +43,11 @@ abbrev pub Takes : Sought → ℕ → Page → Page → Type 0
 Takes sought.Key page left parent = CanTake page (entry_rooms.upper_in left.body) parent
 Takes (sought.Item root item) page left parent = CanTakeItem page (post_rooms.upper_in left.body) parent
 
+-- why the parent does not, of a page whose first part is this
+abbrev pub WhyNotAdopted : Sought → ℕ → Page → Sheet → PlaceError → Type 0
+WhyNotAdopted t page left above e =
+    (e ≡ OutOfMemory) ⊎ ((e ≡ BadPage above.page) × IsPage above.content × (Takes t page left above.content → ⊥))
+
 -- why a page is not split, or its parent does not take the new page
 abbrev pub WhyNoSplit : Sought → Sheet → Sheet → PlaceError → Type 0
 WhyNoSplit t old above e =

@@ -67,7 +67,8 @@ returns-in_err-log_step-clause-cause g c =
     at_exit (λ x. IsCause g.D.Disk c.log_step.new.self x c.args.frames.now c.args.pass.now)
     c.from_residual.result p.0 (log_refusal c.in_err-log_step.field-0.0) p.1 p.2
     (shift_cause g.D.Disk c.args.frames.now c.args.pass.now c.log_step.new.self c.args.step c.log_step.result
-    c.in_err-log_step.field-0.0 c.requires.kind_is c.requires.pages c.in_err-log_step.was e.full e.is_down e.cause)
+    c.in_err-log_step.field-0.0 c.requires.kind_is c.requires.encoded c.requires.pages c.in_err-log_step.was e.full
+    e.is_down e.cause)
 
 pub returns-clause-fine : goal.returns-clause-fine
 returns-clause-fine g c =

@@ -1,7 +1,9 @@
-use Rattle.std.proofs.Common.{◌≡◌, List, [], ◌∷◌, sym, subst, ◌∙◌, inl, inr, arith, rules}
+use Rattle.std.proofs.Common.{◌≡◌, ℕ, List, [], ◌∷◌, sym, subst, ◌∙◌, inl, inr, arith, rules}
 use Rattle.std.specs.Prelude.{Some}
 use Rattle.std.proofs.lemmas.Result.{err_from_is_err_and}
 use Rattle.core_state.specs.Allowed.{Sheet}
+use Rattle.snap_pins.specs.Taken.{IsLeast}
+use Rattle.snap_pins.specs.declared.Pin.{Pin}
 use Rattle.page_space.specs.Taking.{IsTaken, HasNoPage}
 use Rattle.buffer_frames.specs.Passes.{IsHolding}
 use Rattle.buffer_frames.proofs.Exits.{one_error}
@@ -53,12 +55,16 @@ returns-in_default-clause-cause g c =
     c.look.new.pass c.requires.pass c.requires.right e1.added e1.sees_on e1.rises e1.pass e1.keeps.pin e1.keeps.room
     e1.keeps.xid e1.keeps.work e1.pins
     (calm_goes g.D.Disk e1.calm e1.state e1.added e1.runs_on e1.begins) in
+    let since : IsLeast c.look.new.self.pins (λ (p : Pin). p.length) c.look.new.self.journal.state.records
+    c.look.new.pass.since =
+    subst (λ (n : ℕ). IsLeast c.look.new.self.pins (λ (p : Pin). p.length) n c.look.new.pass.since)
+    c.in_ok-page.ensures.all c.in_ok-page.ensures.since in
     let none : HasNoPage c.look.new.self.journal.state c.look.new.pass.since = search rules in (
       c.look.new.self,
       c.look.new.pass,
       r1.works,
       calm_fine g.D.Disk c.args.frames.now c.look.new.self c.look.ensures.calm,
-      none,
+      (since, none),
     )
 
 pub returns-then-page-eq0-clause-reads : goal.returns-then-page-eq0-clause-reads

@@ -51,7 +51,8 @@ returns-in_err-log_step-clause-cause g c =
     at_exit (λ x. CannotLog g.D.Disk c.log_step.new.self x c.args.frames.now c.args.pass.now)
     c.from_residual.result p.0 (log_refusal c.in_err-log_step.field-0.0) p.1 p.2
     (log_cause g.D.Disk c.args.frames.now c.log_step.new.self c.args.pass.now c.args.step c.log_step.result
-    c.in_err-log_step.field-0.0 c.requires.placing c.requires.pages c.in_err-log_step.was e.full e.is_down e.cause)
+    c.in_err-log_step.field-0.0 c.requires.placing c.requires.encoded c.requires.pages c.in_err-log_step.was e.full
+    e.is_down e.cause)
 
 pub returns-in_err-log_step-clause-fault : goal.returns-in_err-log_step-clause-fault
 returns-in_err-log_step-clause-fault g c =
