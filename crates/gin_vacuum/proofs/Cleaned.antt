@@ -1,5 +1,5 @@
 -- A sweep once dead items have left a leaf, where it had some.
-use Rattle.std.proofs.Common.{◌≡◌, ◌≢◌, ◌⊎◌, ℕ, List, [], ◌∷◌, refl, sym, ap, subst, ◌∙◌, inl, inr}
+use Rattle.std.proofs.Common.{◌≡◌, ◌≢◌, ℕ, List, [], ◌∷◌, refl, sym, ap, subst, ◌∙◌, inl, inr}
 use Rattle.std.specs.Prelude.{Option, Some, None}
 use Rattle.disk_trait.specs.declared.device.Disk.{Ghosts as Disk}
 use Rattle.page_types.specs.Views.{slots_in, slot_at}
@@ -14,13 +14,12 @@ use Rattle.core_state.specs.Legal.{IsLegal}
 use Rattle.core_state.specs.TreeRules.{IsRoot}
 use Rattle.core_state.specs.VacuumRules.{MayLeave}
 use Rattle.core_state.proofs.PageLists.{same_or_not}
-use Rattle.core_vacuum.specs.Keeping.{IsVacuum, VacuumKeeps, VacuumHolds}
+use Rattle.core_vacuum.specs.Keeping.{VacuumHolds}
 use Rattle.core_vacuum.proofs.Out.{leave_kept}
 use Rattle.posting_tree.specs.Removing.{IsLeafLeft}
 use Rattle.buffer_frames.specs.Frames.{FramesValue}
 use Rattle.buffer_frames.specs.Passes.{Seen, view_of}
 use Rattle.buffer_frames.specs.declared.pass.Pass.{Pass}
-use Rattle.gin_place.specs.Holding.{ReadsOn}
 use Rattle.gin_vacuum.specs.Vacuum.{AreDead}
 use Rattle.gin_vacuum.specs.Sweeping.{IsAt}
 use Rattle.gin_vacuum.specs.Inner.Logging.{LogsStep}
@@ -28,7 +27,6 @@ use Rattle.gin_vacuum.specs.Inner.Reading.{body_after}
 use Rattle.gin_vacuum.specs.Inner.Sweeping.{IsRemoval, HasCleaned}
 use Rattle.gin_vacuum.specs.declared.sweeping.Sweeping.{Sweeping}
 use Rattle.gin_vacuum.specs.declared.sweeping.Stage.{Stage}
-use Rattle.gin_vacuum.proofs.Downs.{seen_as}
 use Rattle.gin_vacuum.proofs.Kept.{at_then}
 use Rattle.gin_vacuum.proofs.LoggedOn.{EndsWith, logged_on}
 use Rattle.gin_vacuum.proofs.OutOn.{none_some}

@@ -1,41 +1,34 @@
 -- The step by which an empty leaf of a posting tree goes may be logged.
-use Rattle.std.proofs.Common.{◌≡◌, ◌≢◌, ◌<◌, ◌≤◌, ◌^◌, ℕ, List, [], ◌∷◌, ◌++◌, length, refl, sym, ap, subst, ◌∙◌, inl}
+use Rattle.std.proofs.Common.{◌≡◌, ◌≢◌, ◌≤◌, ℕ, List, [], ◌∷◌, ◌++◌, length, refl, sym, ap, subst, ◌∙◌, inl}
 use Rattle.std.proofs.Common.{inr, arith}
-use Rattle.std.specs.Prelude.{Option, Some, None, IfSome}
+use Rattle.std.specs.Prelude.{Option, Some, None}
 use Rattle.std.specs.List.{AllByRecursion}
 use Rattle.disk_trait.specs.declared.device.Disk.{Ghosts as Disk}
 use Rattle.page_types.specs.Keys.{Rising}
-use Rattle.page_types.specs.Numbers.{page_limit}
-use Rattle.page_types.specs.Pages.{IsPage}
 use Rattle.page_types.specs.Records.{IsKind, kind_number}
-use Rattle.page_types.specs.Views.{post_children_in}
 use Rattle.page_types.specs.declared.page.Page.{Page}
 use Rattle.page_types.specs.declared.page.PostChild.{PostChild}
-use Rattle.page_types.specs.declared.page.Body.{Body}
 use Rattle.page_types.specs.declared.page.Body.TheVariants as body
 use Rattle.page_types.specs.declared.page.Gone.{Gone}
 use Rattle.page_types.specs.declared.page.Gone.TheVariants as gone
 use Rattle.page_types.specs.declared.record.Kind.{Kind}
-use Rattle.page_types.specs.declared.record.Kind.TheVariants as kind
 use Rattle.core_state.specs.Log.{Log, Pages, In, Shows, cut}
 use Rattle.core_state.specs.Legal.{IsLegal}
 use Rattle.core_state.specs.Allowed.{Sheet, View, Step, sheet_pages}
 use Rattle.core_state.specs.Steps.{MayBy, sheet}
 use Rattle.core_state.specs.PagesTold.{IsPostLeaf}
 use Rattle.core_state.specs.TreeRules.{IsLeftLeaf}
-use Rattle.core_maintenance.specs.Right as maintenance
 use Rattle.core_vacuum.specs.Leaves.{LeavesHold}
 use Rattle.core_vacuum.specs.VacuumSteps.{LinksOn, CanDeletePost}
 use Rattle.buffer_frames.specs.Drawing.{IsSheet}
 use Rattle.buffer_frames.specs.Opens.{IsLoggedKind}
 use Rattle.buffer_frames.specs.Frames.{FramesValue, Stands}
-use Rattle.buffer_frames.specs.Passes.{IsPassOf, IsHolding, Seen, view_of}
+use Rattle.buffer_frames.specs.Passes.{IsPassOf, IsHolding, view_of}
 use Rattle.buffer_frames.specs.declared.pass.Pass.{Pass}
 use Rattle.gin_place.specs.Placing.{HasRight}
 use Rattle.gin_place.proofs.Owing.{right_of}
 use Rattle.gin_vacuum.specs.Going.{IsVacuumKind}
 use Rattle.gin_vacuum.specs.Sweeping.{IsAt, IsAfter}
-use Rattle.gin_vacuum.specs.Stepping.{LeadsTo, IsEmptyPage}
 use Rattle.gin_vacuum.specs.Inner.Deleting.{with_before, around_pages, left_before, deleted_leaf, IsBefore, IsAround}
 use Rattle.gin_vacuum.specs.Inner.Deleting.{IsDeleteStep, IsWithout, IsFoundEmpty}
 use Rattle.gin_vacuum.specs.Inner.Logging.{MayLogStep}

@@ -1,44 +1,39 @@
 -- A sweep once an empty leaf is deleted.
-use Rattle.std.proofs.Common.{◌≡◌, ◌≢◌, ◌⊎◌, ◌≤◌, ◌<◌, ℕ, zero, suc, List, [], ◌∷◌, ◌++◌, length, refl, sym, ap}
+use Rattle.std.proofs.Common.{◌≡◌, ◌≢◌, ℕ, zero, suc, List, [], ◌∷◌, ◌++◌, length, refl, sym, ap}
 use Rattle.std.proofs.Common.{subst, ◌∙◌, inl, inr, arith}
 use Rattle.std.specs.Prelude.{Option, Some, None}
 use Rattle.disk_trait.specs.declared.device.Disk.{Ghosts as Disk}
-use Rattle.ts_base.specs.Keys.{Key}
-use Rattle.page_types.specs.Records.{kind_number}
 use Rattle.page_types.specs.Views.{slots_in, slot_at}
 use Rattle.page_types.specs.declared.page.Page.{Page}
 use Rattle.page_types.specs.declared.page.Head.{Head}
 use Rattle.page_types.specs.declared.page.PostChild.{PostChild}
 use Rattle.page_types.specs.declared.page.Body.{Body}
 use Rattle.page_types.specs.declared.page.Body.TheVariants as body
-use Rattle.page_types.specs.declared.page.Gone.TheVariants as gone
 use Rattle.page_types.specs.declared.record.Record.{Record}
 use Rattle.page_types.specs.declared.record.Kind.{Kind}
 use Rattle.page_types.specs.declared.record.Kind.TheVariants as kind
-use Rattle.core_state.specs.Log.{Log, Pages, In, Shows, cut}
-use Rattle.core_state.specs.Documents.{Doc, Has, head_of, page_of, slot_of, IsDead}
+use Rattle.core_state.specs.Log.{Log, Pages, In, Shows}
+use Rattle.core_state.specs.Documents.{head_of, page_of, slot_of}
 use Rattle.core_state.specs.Bullets.{PagePlace}
-use Rattle.core_state.specs.Index.{Main, IsNamed, Below}
+use Rattle.core_state.specs.Index.{Below}
 use Rattle.core_state.specs.Legal.{IsLegal}
 use Rattle.core_state.specs.PagesTold.{IsPostLeaf}
 use Rattle.core_state.specs.TreeRules.{IsRoot}
 use Rattle.core_state.specs.VacuumRules.{MayLeave}
-use Rattle.core_state.specs.Allowed.{Sheet, View, Step, Leaves, AreHeld, AreMade, drawn_kind, drawn_body, sheet_pages}
+use Rattle.core_state.specs.Allowed.{Sheet, View, Step, Leaves, AreHeld, AreMade, drawn_body, sheet_pages}
 use Rattle.core_state.specs.Allowed.{made_by}
 use Rattle.core_state.specs.Steps.{sheet}
 use Rattle.core_state.proofs.LawsHold.{pages}
 use Rattle.core_state.proofs.PageLists.{same_or_not}
 use Rattle.core_state.proofs.Steps.Heads.{drawn_as, left_all}
 use Rattle.core_vacuum.specs.Keeping.{IsVacuum, VacuumKeeps, VacuumHolds}
-use Rattle.core_vacuum.specs.Leaves.{LeavesHold}
 use Rattle.core_vacuum.proofs.Out.{leave_kept}
 use Rattle.buffer_frames.specs.Frames.{FramesValue}
-use Rattle.buffer_frames.specs.Passes.{IsPassOf, IsHolding, Seen, IsLogged, view_of}
+use Rattle.buffer_frames.specs.Passes.{IsPassOf, Seen, IsLogged, view_of}
 use Rattle.buffer_frames.specs.declared.pass.Pass.{Pass}
 use Rattle.gin_place.specs.Placing.{HasRight}
 use Rattle.gin_vacuum.specs.Vacuum.{AreDead}
 use Rattle.gin_vacuum.specs.Sweeping.{IsAt, IsSweeping}
-use Rattle.gin_vacuum.specs.Stepping.{IsEmptyPage}
 use Rattle.gin_vacuum.specs.Inner.Deleting.{with_before, around_pages, left_before, deleted_leaf, IsBefore, IsAround}
 use Rattle.gin_vacuum.specs.Inner.Deleting.{IsDeleteStep, IsWithout}
 use Rattle.gin_vacuum.specs.Inner.Logging.{LogsStep}

@@ -1,5 +1,5 @@
 -- A step on the way to the first leaf of a tree.
-use Rattle.std.proofs.Common.{◌≡◌, ◌≢◌, ◌≤◌, ◌<◌, ℕ, zero, suc, List, [], ◌∷◌, refl, sym, ap, subst, ◌∙◌, inl, inr}
+use Rattle.std.proofs.Common.{◌≡◌, ◌≢◌, ℕ, zero, suc, List, [], ◌∷◌, refl, sym, ap, subst, ◌∙◌, inl, inr}
 use Rattle.std.proofs.Common.{arith}
 use Rattle.std.specs.Prelude.{Option, Some, None}
 use Rattle.std.specs.Option.{unwrap_or}
@@ -17,8 +17,8 @@ use Rattle.core_state.specs.PagesTold.{OnPostLeaf, UpPostLeaf}
 use Rattle.core_state.specs.PageChoice.{IsLeast, AreBelow}
 use Rattle.core_state.specs.States.{StateValue, StateTells}
 use Rattle.core_state.proofs.LawsHold.{pages}
-use Rattle.core_maintenance.specs.Leading.{IsHigh, IsHighPost, WaysLead, WaysHold}
-use Rattle.core_vacuum.specs.Leaves.{IsFirst, LeavesStand, LeavesHold}
+use Rattle.core_maintenance.specs.Leading.{IsHigh, IsHighPost, WaysHold}
+use Rattle.core_vacuum.specs.Leaves.{IsFirst, LeavesHold}
 use Rattle.entry_tree.specs.Adding as entry_leaves
 use Rattle.entry_tree.specs.Reading as entries
 use Rattle.posting_tree.specs.Adding as post_leaves
@@ -109,8 +109,8 @@ module _ (S : Log) (P : Pages) (some : S ≢ []) (legal : IsLegal S) (shown : Sh
 
   pub at_leaf : suc left ≡ unwrap_or m.left extent → At → entry_leaves.IsEntryLeaf c.body
       → IsAt P dead (record m { stage = stage.Leaf page; left = Some left }) (stage.Leaf page)
-  at_leaf e at leaf =
-      let x = entry_leaf c.body leaf in
+  at_leaf e at here =
+      let x = entry_leaf c.body here in
       let l : IsEntryLeaf P page = (x.0, x.1, content ∙ x.2) in
       let first = (law S P some legal shown).first page at.0 l in (
         l,
@@ -151,8 +151,8 @@ module _ (S : Log) (P : Pages) (some : S ≢ []) (legal : IsLegal S) (shown : Sh
 
     pub at_tree_leaf : suc left ≡ unwrap_or m.left_below extent → AtTree → post_leaves.IsPostLeaf c.body
         → IsAt P dead (record m { stage = stage.Posts root 0 page; left_below = Some left }) (stage.Posts root 0 page)
-    at_tree_leaf e at leaf =
-        let x = post_leaf c.body leaf in
+    at_tree_leaf e at here =
+        let x = post_leaf c.body here in
         let n = named at in
         let first = (law S P some legal shown).first_post n.0 root page x.0 x.1 n.1 at.1 (content ∙ x.2) in
         let order = told.bounds.post_leaves root (IsRoot.of_postings n.0 n.1)

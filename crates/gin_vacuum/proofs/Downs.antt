@@ -1,8 +1,8 @@
 -- The ways to the first leaves of the trees.
-use Rattle.std.proofs.Common.{◌≡◌, ◌≢◌, ◌≤◌, ◌<◌, ℕ, List, [], ◌∷◌, ◌++◌, length, take, ◌-◌, refl, sym, ap, subst, ◌∙◌}
-use Rattle.std.proofs.Common.{inl, inr, arith, length-append}
+use Rattle.std.proofs.Common.{◌≡◌, ◌≢◌, ℕ, List, [], ◌∷◌, length, take, ◌-◌, refl, sym, ap, subst}
+use Rattle.std.proofs.Common.{inl, inr, arith}
 use Rattle.std.proofs.lemmas.List.{take-append-drop}
-use Rattle.std.specs.Prelude.{Option, Some, None, ⊤}
+use Rattle.std.specs.Prelude.{Some}
 use Rattle.disk_trait.specs.declared.device.Disk.{Ghosts as Disk}
 use Rattle.ts_base.specs.Keys.{Key}
 use Rattle.page_types.specs.declared.page.Page.{Page}
@@ -10,17 +10,11 @@ use Rattle.page_types.specs.declared.page.EntryChild.{EntryChild}
 use Rattle.page_types.specs.declared.page.PostChild.{PostChild}
 use Rattle.page_types.specs.declared.page.Body.{Body}
 use Rattle.page_types.specs.declared.page.Body.TheVariants as body
-use Rattle.core_state.specs.Log.{Log, Pages, In, Shows, cut}
+use Rattle.core_state.specs.Log.{Log, Pages, Shows, cut}
 use Rattle.core_state.specs.Changes.{UpTo}
-use Rattle.core_state.specs.Index.{IsNamed}
 use Rattle.core_state.specs.Legal.{IsLegal}
 use Rattle.core_state.specs.TreeRules.{Toward, TowardItem}
-use Rattle.core_state.specs.PagesTold.{IsEntryLeaf}
-use Rattle.core_state.proofs.Steps.Seen.{seen_legal, seen_shown, steady_facts}
-use Rattle.core_maintenance.specs.Leading.{WaysHold}
-use Rattle.core_maintenance.proofs.Found.{right_keeps_found}
-use Rattle.core_maintenance.proofs.Right.{index_stays}
-use Rattle.core_vacuum.specs.Leaves.{LeavesHold}
+use Rattle.core_state.proofs.Steps.Seen.{seen_shown}
 use Rattle.entry_tree.specs.Adding as entry_leaves
 use Rattle.entry_tree.specs.Reading as entries
 use Rattle.posting_tree.specs.Adding as post_leaves
@@ -34,10 +28,6 @@ use Rattle.gin_place.specs.Causes.{CannotUse}
 use Rattle.gin_place.specs.Placing.{HasRight}
 use Rattle.gin_place.proofs.Lawful.{usable}
 use Rattle.gin_place.proofs.Owing.{right_of}
-use Rattle.gin_vacuum.specs.Sweeping.{IsAt, IsTreeAt, IsAfter, Passed}
-use Rattle.gin_vacuum.specs.declared.sweeping.Sweeping.{Sweeping}
-use Rattle.gin_vacuum.specs.declared.sweeping.Stage.TheVariants as stage
-use Rattle.gin_vacuum.proofs.TreesStay.{there_in}
 use Rattle.gin_vacuum.proofs.StaysOn.{StaysOn, stays_allowed}
 
 -- ── the first child ──

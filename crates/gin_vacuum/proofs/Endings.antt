@@ -1,5 +1,5 @@
 -- How a run of steps ends by which dead documents go.
-use Rattle.std.proofs.Common.{◌≡◌, ◌≤◌, ℕ, List, [], ◌++◌, sym, subst, ◌∙◌, append-nil}
+use Rattle.std.proofs.Common.{◌≤◌, ℕ, List, [], ◌++◌, sym, subst, ◌∙◌, append-nil}
 use Rattle.disk_trait.specs.declared.device.Disk.{Ghosts as Disk}
 use Rattle.page_types.specs.Numbers.{page_limit}
 use Rattle.core_maintenance.specs.Keeping.{HistoryHolds}

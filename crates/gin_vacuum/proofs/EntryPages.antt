@@ -1,9 +1,7 @@
 -- Leaves of the entry tree are pages of it.
-use Rattle.std.proofs.Common.{◌≡◌, ◌≢◌, ℕ, List, [], sym, ap, subst, ◌∙◌, inl, inr}
+use Rattle.std.proofs.Common.{◌≢◌, ℕ, List, [], sym, subst, inl, inr}
 use Rattle.ts_base.specs.Keys.{Key}
 use Rattle.page_types.specs.declared.page.Entry.{Entry}
-use Rattle.page_types.specs.declared.page.Gone.{Gone}
-use Rattle.page_types.specs.declared.page.Body.{Body}
 use Rattle.page_types.specs.declared.page.Body.TheVariants as body
 use Rattle.core_state.specs.Log.{Log, Pages}
 use Rattle.core_state.specs.Index.{Below}

@@ -1,18 +1,16 @@
 -- How far slots have become free is so still in calls that log nothing, and once own records are logged.
-use Rattle.std.proofs.Common.{◌≡◌, ◌≢◌, ◌⊎◌, ◌≤◌, ◌-◌, ℕ, List, [], ◌∷◌, ◌++◌, length, take, drop, refl, sym, ap, subst}
+use Rattle.std.proofs.Common.{◌≡◌, ◌≢◌, ◌≤◌, ◌-◌, ℕ, List, [], ◌∷◌, ◌++◌, length, take, drop, refl, sym, ap, subst}
 use Rattle.std.proofs.Common.{◌∙◌, inl, inr, arith, length-drop}
-use Rattle.std.specs.Prelude.{Option, Some, None}
+use Rattle.std.specs.Prelude.{None}
 use Rattle.disk_trait.specs.declared.device.Disk.{Ghosts as Disk}
 use Rattle.page_types.specs.Views.{slots_in, slot_at}
-use Rattle.page_types.specs.Records.{kind_number}
 use Rattle.page_types.specs.declared.page.Page.{Page}
-use Rattle.page_types.specs.declared.page.Head.{Head}
 use Rattle.page_types.specs.declared.page.Body.{Body}
 use Rattle.page_types.specs.declared.page.Body.TheVariants as body
 use Rattle.page_types.specs.declared.record.Kind.{Kind}
 use Rattle.page_types.specs.declared.record.Kind.TheVariants as kind
-use Rattle.core_state.specs.Log.{Log, Pages, In, Shows, cut}
-use Rattle.core_state.specs.Documents.{Doc, Has, head_of, page_of, slot_of}
+use Rattle.core_state.specs.Log.{Log, Pages, In, Shows}
+use Rattle.core_state.specs.Documents.{head_of, page_of, slot_of}
 use Rattle.core_state.specs.Legal.{IsLegal}
 use Rattle.core_state.specs.RecordKeeps.{RecordsKeep}
 use Rattle.core_state.proofs.PageLists.{same_or_not}
@@ -27,7 +25,6 @@ use Rattle.buffer_frames.specs.Frames.{FramesValue}
 use Rattle.buffer_frames.specs.Passes.{IsPassOf, IsHolding, Seen, IsLogged, view_of}
 use Rattle.buffer_frames.specs.declared.pass.Pass.{Pass}
 use Rattle.buffer_frames.proofs.AtHand.{cut_whole}
-use Rattle.doc_heap.specs.Leaving.{FreesItems}
 use Rattle.gin_place.specs.Going.{WorksOn}
 use Rattle.gin_place.specs.Placing.{HasRight}
 use Rattle.gin_vacuum.specs.Vacuum.{AreOut}

@@ -1,5 +1,5 @@
 -- A sweep after a page was held, read and given back.
-use Rattle.std.proofs.Common.{◌≡◌, ◌≢◌, ℕ, List, [], ◌∷◌, refl, sym, ap, subst, ◌∙◌, arith, Ok, Err}
+use Rattle.std.proofs.Common.{◌≡◌, ◌≢◌, ℕ, List, [], ◌∷◌, refl, ◌∙◌, arith, Ok, Err}
 use Rattle.disk_trait.specs.declared.device.Disk.{Ghosts as Disk}
 use Rattle.core_state.specs.Log.{Log, Pages, Shows}
 use Rattle.core_state.specs.Legal.{IsLegal}

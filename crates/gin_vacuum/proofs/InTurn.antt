@@ -1,9 +1,8 @@
 -- Calls that log records by which dead documents go, one after another.
-use Rattle.std.proofs.Common.{◌≡◌, ◌≤◌, ℕ, Bool, List, [], ◌∷◌, ◌++◌, refl, sym, subst, ◌∙◌, arith}
+use Rattle.std.proofs.Common.{ℕ, Bool, List, [], ◌∷◌, ◌++◌, subst, ◌∙◌, arith}
 use Rattle.std.specs.List.{AllByRecursion}
 use Rattle.disk_trait.specs.declared.device.Disk.{Ghosts as Disk}
 use Rattle.wal.proofs.Paging.{kept_then}
-use Rattle.core_state.specs.Log.{Log}
 use Rattle.core_maintenance.specs.Keeping.{HistoryHolds}
 use Rattle.buffer_frames.specs.Frames.{FramesValue, RunsOn}
 use Rattle.buffer_frames.specs.Passes.{GoesOnBy}

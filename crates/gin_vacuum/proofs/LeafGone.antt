@@ -1,11 +1,10 @@
 -- What a sweep goes by once an empty leaf is deleted: the leaf before it, if there is one, leads on to the next.
-use Rattle.std.proofs.Common.{◌≡◌, ◌≢◌, ◌⊎◌, ◌≤◌, ℕ, zero, suc, List, [], ◌∷◌, ◌++◌, map, take, refl, sym, ap, subst}
+use Rattle.std.proofs.Common.{◌≡◌, ◌≢◌, ◌≤◌, ℕ, suc, List, [], ◌∷◌, ◌++◌, map, refl, sym, ap, subst}
 use Rattle.std.proofs.Common.{◌∙◌}
 use Rattle.std.proofs.Common.{inl, inr, arith}
 use Rattle.std.specs.Prelude.{Option, Some, None}
 use Rattle.ts_base.specs.Keys.{Key}
-use Rattle.page_types.specs.Views.{entries_of, entries_in, posting_items_in}
-use Rattle.page_types.specs.declared.page.Page.{Page}
+use Rattle.page_types.specs.Views.{entries_in, posting_items_in}
 use Rattle.page_types.specs.declared.page.Entry.{Entry}
 use Rattle.page_types.specs.declared.page.PostChild.{PostChild}
 use Rattle.page_types.specs.declared.page.Gone.{Gone}
@@ -14,16 +13,14 @@ use Rattle.page_types.specs.declared.page.Body.TheVariants as body
 use Rattle.page_types.specs.declared.page.Gone.TheVariants as gone
 use Rattle.core_state.specs.Log.{Pages, In}
 use Rattle.core_state.specs.Index.{Below, Main, IsNamed, children_in}
-use Rattle.core_state.specs.TreeRules.{IsRoot}
 use Rattle.core_state.specs.PagesTold.{LeavesInOrder, IsEntryLeaf, UpEntryLeaf, IsPostLeaf, OnPostLeaf, UpPostLeaf}
 use Rattle.core_state.proofs.PageLists.{same_or_not}
-use Rattle.gin_vacuum.specs.Sweeping.{IsDirty, IsDirtyItem, IsCleanTree, Passed, IsPassed, LeadsOver, AreLeft}
+use Rattle.gin_vacuum.specs.Sweeping.{IsDirty, IsDirtyItem, Passed, IsPassed, LeadsOver, AreLeft}
 use Rattle.gin_vacuum.specs.Sweeping.{IsLeafAt, IsTreeAt, IsAfter, IsEmptyLeaf, IsAt}
 use Rattle.gin_vacuum.specs.declared.deleting.Empty.{Empty}
 use Rattle.gin_vacuum.specs.declared.sweeping.Sweeping.{Sweeping}
 use Rattle.gin_vacuum.specs.declared.sweeping.Stage.TheVariants as stage
 use Rattle.gin_vacuum.proofs.NeverAround.{is_before}
-use Rattle.gin_vacuum.proofs.TreesStay.{in_take, there_in}
 
 -- the empty leaf is deleted, its parent is left without it, and the leaf before it, if there is one, has its link
 pub record LosesLeaf (P Q : Pages) (e : Empty) (parent : ℕ) : Type 0 where

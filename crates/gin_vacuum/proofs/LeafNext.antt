@@ -1,14 +1,9 @@
 -- A leaf of the entry tree without dead items is at work: its trees are next.
-use Rattle.std.proofs.Common.{◌≡◌, ◌≢◌, ◌≤◌, ℕ, zero, suc, List, [], ◌∷◌, refl, sym, ap, subst, ◌∙◌, inl, inr, arith}
-use Rattle.std.specs.Prelude.{Option, Some, None}
+use Rattle.std.proofs.Common.{◌≡◌, ℕ, suc, List, refl, sym, ap, subst, ◌∙◌}
+use Rattle.std.specs.Prelude.{Option, Some}
 use Rattle.std.specs.Option.{unwrap_or}
-use Rattle.ts_base.specs.Keys.{Key}
-use Rattle.page_types.specs.Items.{items_of}
 use Rattle.page_types.specs.Views.{entries_in, entries_of}
 use Rattle.page_types.specs.declared.page.Page.{Page}
-use Rattle.page_types.specs.declared.page.Entry.{Entry}
-use Rattle.page_types.specs.declared.page.Postings.TheVariants.{Inline, Root}
-use Rattle.page_types.specs.declared.page.Body.{Body}
 use Rattle.core_state.specs.Log.{Pages, In}
 use Rattle.core_state.specs.PagesTold.{IsEntryLeaf}
 use Rattle.core_vacuum.specs.Leaves.{LeavesStand}

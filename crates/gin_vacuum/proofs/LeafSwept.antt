@@ -1,13 +1,12 @@
 -- A sweep goes on from a leaf of the entry tree.
-use Rattle.std.proofs.Common.{◌≡◌, ◌≢◌, ◌<◌, ◌≤◌, ◌*◌, ◌+◌, ◌-◌, ◌^◌, ℕ, zero, suc, List, [], ◌∷◌, length, refl, sym}
-use Rattle.std.proofs.Common.{ap, subst, ◌∙◌, arith}
-use Rattle.std.specs.Prelude.{Option, Some, None, Vec}
+use Rattle.std.proofs.Common.{◌≡◌, ◌≢◌, ◌<◌, ◌≤◌, ◌^◌, ℕ, suc, List, [], length, refl, sym}
+use Rattle.std.proofs.Common.{ap, subst, arith}
+use Rattle.std.specs.Prelude.{Some}
 use Rattle.std.specs.Option.{unwrap_or}
 use Rattle.page_types.specs.Encoding.{count_of}
 use Rattle.page_types.specs.Pages.{IsPage}
 use Rattle.page_types.specs.Views.{entries_in}
 use Rattle.page_types.specs.declared.page.Page.{Page}
-use Rattle.page_types.specs.declared.page.Entry.{Entry}
 use Rattle.page_types.specs.declared.page.Body.{Body}
 use Rattle.core_state.specs.Log.{Log, Pages, Shows}
 use Rattle.core_state.specs.Allowed.{Sheet}
@@ -19,14 +18,13 @@ use Rattle.core_state.proofs.LawsHold.{pages}
 use Rattle.core_vacuum.specs.Entries.{EntriesHold}
 use Rattle.core_vacuum.specs.Leaves.{LeavesHold}
 use Rattle.entry_tree.specs.Adding.{IsEntryLeaf}
-use Rattle.gin_place.specs.Stepping.{reads_left, most_reads}
+use Rattle.gin_place.specs.Stepping.{reads_left}
 use Rattle.gin_vacuum.specs.Sweeping.{HasHigh, IsAt}
 use Rattle.gin_vacuum.specs.Stepping.{steps_left, below_left, above_left}
 use Rattle.gin_vacuum.specs.Inner.Reading.{IsReadLeaf, body_after}
 use Rattle.gin_vacuum.specs.Inner.Sweeping.{HasNextTree}
 use Rattle.gin_vacuum.specs.declared.sweeping.ReadLeaf.{ReadLeaf}
 use Rattle.gin_vacuum.specs.declared.sweeping.Sweeping.{Sweeping}
-use Rattle.gin_vacuum.specs.declared.sweeping.Stage.{Stage}
 use Rattle.gin_vacuum.specs.declared.sweeping.Stage.TheVariants as stage
 use Rattle.gin_vacuum.proofs.Cleaned.{IsLeftAs}
 use Rattle.gin_vacuum.proofs.EntryPages.{leaf_below}
@@ -74,7 +72,7 @@ next_high old _ (HasNextTree.done all end) = tt
 pub few_roots : (c : Page) → IsPage c → IsEntryLeaf c.body → (roots : List ℕ)
     → length roots ≤ length (entries_in c.body)
     → length roots < 2 ^ 16
-few_roots c is leaf roots few = go c.body leaf refl
+few_roots c is here roots few = go c.body here refl
   where
     go : (b : Body) → IsEntryLeaf b → c.body ≡ b → length roots < 2 ^ 16
     go _ (IsEntryLeaf.leaf high es) e =

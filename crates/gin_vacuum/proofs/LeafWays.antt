@@ -1,15 +1,13 @@
 -- The way of a leaf's high item, down its posting tree, leads to the leaf.
-use Rattle.std.proofs.Common.{◌≡◌, ◌≢◌, ◌<◌, ◌≤◌, ℕ, List, [], ◌∷◌, ◌++◌, map, length, refl, sym, ap, subst, ◌∙◌, inl}
+use Rattle.std.proofs.Common.{◌≡◌, ◌≢◌, ◌<◌, ◌≤◌, ℕ, List, ◌∷◌, ◌++◌, map, length, refl, sym, ap, subst, ◌∙◌, inl}
 use Rattle.std.proofs.Common.{inr, arith}
 use Rattle.ts_base.specs.Keys.{Key}
 use Rattle.page_types.specs.Numbers.{no_bound, item_limit}
 use Rattle.page_types.specs.Items.{items_of}
-use Rattle.page_types.specs.Pages.{IsPage}
 use Rattle.page_types.specs.declared.page.PostChild.{PostChild}
 use Rattle.page_types.specs.declared.page.Body.{Body}
 use Rattle.page_types.specs.declared.page.Body.TheVariants as body
 use Rattle.core_state.specs.Log.{Log, Pages, In, Shows, commits}
-use Rattle.core_state.specs.Changes.{ItemUpTo}
 use Rattle.core_state.specs.Index.{IsNamed}
 use Rattle.core_state.specs.Legal.{IsLegal}
 use Rattle.core_state.specs.PagesTold.{IsPostLeaf}

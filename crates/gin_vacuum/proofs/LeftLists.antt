@@ -1,17 +1,15 @@
 -- The lists of a leaf from which dead items are gone, and the trees that it names.
-use Rattle.std.proofs.Common.{◌≡◌, ℕ, zero, suc, List, [], ◌∷◌, refl, sym, ap, subst, ◌∙◌, inl, inr}
+use Rattle.std.proofs.Common.{◌≡◌, ℕ, List, [], ◌∷◌, refl, sym, ap, subst, ◌∙◌, inl, inr}
 use Rattle.std.specs.Prelude.{Option, Some, None}
-use Rattle.std.specs.List.{Contains}
 use Rattle.page_types.specs.Items.{items_of}
-use Rattle.page_types.specs.Views.{entries_in, list_in, posting_items_in}
+use Rattle.page_types.specs.Views.{entries_in, list_in}
 use Rattle.page_types.specs.declared.page.Page.{Page}
 use Rattle.page_types.specs.declared.page.Entry.{Entry}
 use Rattle.page_types.specs.declared.page.Postings.{Postings}
 use Rattle.page_types.specs.declared.page.Postings.TheVariants.{Inline, Root}
 use Rattle.page_types.specs.declared.page.Body.{Body}
 use Rattle.core_state.specs.Log.{In}
-use Rattle.posting_tree.specs.Removing.{IsEntryLeft, AreEntriesLeft, IsLeafLeft, IsListed}
-use Rattle.entry_tree.specs.Adding.{tree_entry}
+use Rattle.posting_tree.specs.Removing.{IsEntryLeft, AreEntriesLeft, IsLeafLeft}
 use Rattle.gin_vacuum.specs.Inner.Reading.{IsCleaned, body_after}
 use Rattle.gin_vacuum.proofs.Removed.{contained, loses}
 use Rattle.gin_vacuum.proofs.TreesStay.{entries_were}

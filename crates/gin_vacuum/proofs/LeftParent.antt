@@ -1,18 +1,16 @@
 -- A sweep after the parent of an empty leaf was held: the leaf is deleted, stays as the last child, or was not deleted.
-use Rattle.std.proofs.Common.{◌≡◌, ◌≢◌, ◌⊎◌, ◌<◌, ◌≤◌, ◌+◌, ◌*◌, ◌-◌, ◌^◌, ℕ, List, [], ◌∷◌, length, refl, sym, ap}
+use Rattle.std.proofs.Common.{◌≡◌, ◌≢◌, ◌<◌, ◌+◌, ◌*◌, ◌-◌, ◌^◌, ℕ, List, [], ◌∷◌, length, refl, sym, ap}
 use Rattle.std.proofs.Common.{subst, ◌∙◌}
-use Rattle.std.proofs.Common.{inl, inr, arith, Result, Ok, Err}
-use Rattle.std.specs.Prelude.{Option, Some, None, IfSome, ⊤}
-use Rattle.std.specs.List.{AllByRecursion}
+use Rattle.std.proofs.Common.{inl, arith, Ok, Err}
+use Rattle.std.specs.Prelude.{Option, Some, IfSome}
 use Rattle.disk_trait.specs.declared.device.Disk.{Ghosts as Disk}
 use Rattle.page_types.specs.Items.{items_of}
-use Rattle.page_types.specs.Pages.{IsPage, IsBody, IsHighItem}
+use Rattle.page_types.specs.Pages.{IsPage, IsHighItem}
 use Rattle.page_types.specs.Records.{kind_number}
 use Rattle.page_types.specs.Views.{posting_items_in}
 use Rattle.page_types.specs.declared.page.Page.{Page}
 use Rattle.page_types.specs.declared.page.Body.{Body}
 use Rattle.page_types.specs.declared.page.Body.TheVariants as body
-use Rattle.page_types.specs.declared.page.Gone.TheVariants as gone
 use Rattle.page_types.specs.declared.record.Kind.{Kind}
 use Rattle.core_state.specs.Log.{Log, Pages, In, Shows}
 use Rattle.core_state.specs.Legal.{IsLegal}
@@ -40,7 +38,7 @@ use Rattle.gin_place.proofs.Causing.{finds_as, finds_now, none_before}
 use Rattle.gin_vacuum.specs.Sweeping.{IsAt, IsSweeping, HasHigh}
 use Rattle.gin_vacuum.specs.Stepping.{HasSwept, IsCause, IsBad, IsSweepKind, steps_left, below_left}
 use Rattle.gin_vacuum.specs.Stepping.{above_left}
-use Rattle.gin_vacuum.specs.Inner.Deleting.{IsBadAround, IsWithout, LogsDelete, IsDeleteStep, deleted_leaf}
+use Rattle.gin_vacuum.specs.Inner.Deleting.{IsBadAround, IsWithout, LogsDelete, deleted_leaf}
 use Rattle.gin_vacuum.specs.Inner.Sweeping.{GoesPast, HasNextTree}
 use Rattle.gin_vacuum.specs.declared.deleting.Empty.{Empty}
 use Rattle.gin_vacuum.specs.declared.sweeping.Sweeping.{Sweeping}

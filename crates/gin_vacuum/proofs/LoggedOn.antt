@@ -1,6 +1,6 @@
 -- What a pass had seen is so of the log that it sees once its own record is logged, where others' records and this one
 -- keep it.
-use Rattle.std.proofs.Common.{◌≡◌, ◌≤◌, ℕ, List, [], ◌∷◌, length, sym, subst, ◌∙◌, arith}
+use Rattle.std.proofs.Common.{◌≡◌, ◌≤◌, List, length, sym, subst, ◌∙◌, arith}
 use Rattle.disk_trait.specs.declared.device.Disk.{Ghosts as Disk}
 use Rattle.page_types.specs.Records.{kind_number}
 use Rattle.core_state.specs.Log.{Log, Pages, Shows, cut}

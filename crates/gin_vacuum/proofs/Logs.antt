@@ -13,6 +13,7 @@ use Rattle.core_state.specs.Allowed.{Sheet, Step}
 use Rattle.core_state.specs.States.{StateValue, step_of, stepped, noted}
 use Rattle.core_maintenance.specs.Keeping.{HistoryHolds}
 use Rattle.core_vacuum.specs.HeapPages.{HeapPagesHold}
+use Rattle.buffer_frames.specs.Drawing.{HasEncoding}
 use Rattle.buffer_frames.specs.Opens.{IsEarlyKind}
 use Rattle.buffer_frames.specs.Beginnings.{BeginsWith}
 use Rattle.buffer_frames.specs.Journals.{after_owed, logged, with_owed, logged_bytes, next_record}
@@ -196,17 +197,17 @@ module _ {D : Type 0} (device : Disk D) (history : HistoryHolds) (heaps : HeapPa
 
 -- why it is refused
 pub log_cause : {D : Type 0} (device : Disk D) (f g : FramesValue D) (p : Pass) (step : Step) {T : Type 0}
-    (r : Result T LogError) (w : LogError) → IsVacuumKind (kind_number step.kind) → length step.after ≤ 3
-    → r ≡ Err w
+    (r : Result T LogError) (w : LogError) → IsVacuumKind (kind_number step.kind) → HasEncoding step
+    → length step.after ≤ 3 → r ≡ Err w
     → LogFullWhere (limit_of f.journal.wal)
     (length_with f.journal.wal (logged_bytes f.journal (next_record f.journal step))) r
     → ((n : ℕ) → (r ≡ Err (logs.Down n)) ↔ (down_of f.journal.wal ≡ Some n))
     → WriteHasCause device f.journal.disk g.journal.disk r → CannotLog device g (log_refusal w) f p
-log_cause device f g p step r logs.DiskFault vacuum few is full down cause = cause.fault is
-log_cause device f g p step {T} r logs.LogFull vacuum few is full down cause =
+log_cause device f g p step r logs.DiskFault vacuum encoded few is full down cause = cause.fault is
+log_cause device f g p step {T} r logs.LogFull vacuum encoded few is full down cause =
     let over = subst (LogFullWhere {T = T} (limit_of f.journal.wal)
     (length_with f.journal.wal (logged_bytes f.journal (next_record f.journal step)))) is full in
-    record { step = step; vacuum = vacuum; pages = few; over = over }
-log_cause device f g p step r (logs.Down n) vacuum few is full down cause = (down n).0 is
-log_cause device f g p step r logs.XidsSpent vacuum few is full down cause = tt
-log_cause device f g p step r logs.OutOfMemory vacuum few is full down cause = tt
+    record { step = step; vacuum = vacuum; encoded = encoded; pages = few; over = over }
+log_cause device f g p step r (logs.Down n) vacuum encoded few is full down cause = (down n).0 is
+log_cause device f g p step r logs.XidsSpent vacuum encoded few is full down cause = tt
+log_cause device f g p step r logs.OutOfMemory vacuum encoded few is full down cause = tt

@@ -1,10 +1,8 @@
 -- The pages around an empty leaf are as they were found in each legal log.
 use Rattle.std.proofs.Common.{◌≡◌, ◌≢◌, ℕ, List, [], ◌∷◌, ◌++◌, length, refl, sym, ap, subst, ◌∙◌, arith, length-append}
-use Rattle.std.specs.Prelude.{Option}
 use Rattle.disk_trait.specs.declared.device.Disk.{Ghosts as Disk}
 use Rattle.page_types.specs.Pages.{IsPage, IsBody}
 use Rattle.page_types.specs.declared.page.Page.{Page}
-use Rattle.page_types.specs.declared.page.Body.{Body}
 use Rattle.page_types.specs.declared.page.Body.TheVariants as body
 use Rattle.core_state.specs.Log.{Log, Pages, Shows, cut}
 use Rattle.core_state.specs.Allowed.{Sheet, View, IsAllowed}

@@ -1,6 +1,6 @@
 -- No page of a dead document is bad in a legal log.
 use Rattle.std.proofs.Common.{◌≡◌, ◌≢◌, ℕ, zero, suc, List, [], ◌∷◌, refl, sym, ap, subst, ◌∙◌, inl}
-use Rattle.std.specs.Prelude.{Option, Some, None}
+use Rattle.std.specs.Prelude.{Option, Some}
 use Rattle.disk_trait.specs.declared.device.Disk.{Ghosts as Disk}
 use Rattle.page_types.specs.Views.{slots_in, slot_at}
 use Rattle.page_types.specs.declared.page.Page.{Page}
@@ -11,7 +11,6 @@ use Rattle.core_state.specs.Log.{Log, Pages, In}
 use Rattle.core_state.specs.Documents.{page_of, slot_of, head_of}
 use Rattle.core_state.specs.Allowed.{Sheet}
 use Rattle.core_state.specs.Legal.{IsLegal}
-use Rattle.core_state.specs.Log.{commits, Shows}
 use Rattle.core_state.specs.Inner.Ghosts.{Ghost}
 use Rattle.core_state.specs.Inner.ItemChains.{ChainOf}
 use Rattle.core_state.specs.Inner.PageKinds.{IsOverflow, IsPending}

@@ -1,14 +1,13 @@
 -- Why the page that a sweep reads next is not held: in a lawful store none is bad.
-use Rattle.std.proofs.Common.{◌≡◌, ◌≢◌, ◌⊎◌, ◌<◌, ◌≤◌, ◌-◌, ℕ, zero, suc, List, [], length, take, refl, sym, ap, subst}
+use Rattle.std.proofs.Common.{◌≡◌, ◌≢◌, ◌⊎◌, ◌<◌, ◌-◌, ℕ, List, [], length, take, refl, sym, subst}
 use Rattle.std.proofs.Common.{◌∙◌, inl, inr, arith, Err}
 use Rattle.std.proofs.lemmas.List.{take-append-drop}
-use Rattle.std.specs.Prelude.{Option, Some, None, ⊤}
+use Rattle.std.specs.Prelude.{Option, Some, ⊤}
 use Rattle.disk_trait.specs.declared.device.Disk.{Ghosts as Disk}
 use Rattle.page_types.specs.declared.page.Page.{Page}
 use Rattle.page_types.specs.declared.page.Body.TheVariants as body
 use Rattle.core_state.specs.Log.{Log, Pages, Shows, cut}
 use Rattle.core_state.specs.Legal.{IsLegal}
-use Rattle.core_state.specs.PageChoice.{IsLeast, AreBelow}
 use Rattle.core_state.specs.PagesTold.{PagesTold, IsEntryLeaf, IsPostLeaf}
 use Rattle.core_state.specs.States.{StateTells}
 use Rattle.core_state.proofs.LawsHold.{pages}
@@ -17,7 +16,7 @@ use Rattle.core_maintenance.specs.Leading.{IsHigh, IsHighPost}
 use Rattle.buffer_frames.specs.Frames.{FramesValue, Behind}
 use Rattle.buffer_frames.specs.Passes.{IsPassOf, Seen}
 use Rattle.buffer_frames.specs.declared.pass.Pass.{Pass}
-use Rattle.buffer_frames.proofs.AtHand.{none_held, log_length, cut_length}
+use Rattle.buffer_frames.proofs.AtHand.{none_held}
 use Rattle.buffer_frames.proofs.FirstLogs.{shown_by}
 use Rattle.buffer_frames.proofs.HistoryParts.{legal_before}
 use Rattle.gin_place.specs.Placing.{HasRight}
@@ -38,7 +37,6 @@ use Rattle.gin_vacuum.specs.declared.sweeping.Stage.TheVariants as stage
 use Rattle.gin_vacuum.proofs.Downs.{seen_as, never_used}
 use Rattle.gin_vacuum.proofs.GoneDown.{refused}
 use Rattle.gin_vacuum.proofs.Kept.{some_then, at_then}
-use Rattle.gin_vacuum.proofs.StaysOn.{StaysOn}
 use Rattle.gin_vacuum.proofs.Swept.{sweeping_on}
 use Rattle.gin_vacuum.proofs.TreeRuns.{used_below}
 

@@ -1,6 +1,6 @@
 -- A step of a sweep that is refused at the page that it reads next.
 use Rattle.std.proofs.Common.{◌≡◌, ◌≢◌, ◌⊎◌, ℕ, List, [], ◌∷◌, refl, sym, ap, subst, ◌∙◌, Result, Err}
-use Rattle.std.specs.Prelude.{Option, Some, None, ⊤}
+use Rattle.std.specs.Prelude.{Option, None, ⊤}
 use Rattle.disk_trait.specs.declared.device.Disk.{Ghosts as Disk}
 use Rattle.page_types.specs.Pages.{IsPage, IsBody}
 use Rattle.page_types.specs.declared.page.Page.{Page}

@@ -1,5 +1,5 @@
 -- A leaf without dead items is passed: what is up to its high key is clean then.
-use Rattle.std.proofs.Common.{◌≡◌, ◌≢◌, ◌≤◌, ◌+◌, ℕ, zero, suc, List, [], ◌∷◌, length, take, refl, sym, ap, subst, ◌∙◌}
+use Rattle.std.proofs.Common.{◌≡◌, ◌≢◌, ◌≤◌, ℕ, zero, suc, List, [], ◌∷◌, length, take, refl, sym, subst, ◌∙◌}
 use Rattle.std.proofs.Common.{inl, inr}
 use Rattle.std.proofs.Common.{◌⊎◌, Some, arith}
 use Rattle.std.specs.Prelude.{Option}
@@ -21,7 +21,6 @@ use Rattle.gin_vacuum.specs.Sweeping.{IsDirty, IsDirtyItem, IsCleanTree, Passed,
 use Rattle.gin_vacuum.specs.Sweeping.{AreLeft, IsAt}
 use Rattle.gin_vacuum.specs.Inner.Sweeping.{HasNextTree, GoesPast}
 use Rattle.gin_vacuum.specs.declared.sweeping.Sweeping.{Sweeping}
-use Rattle.gin_vacuum.specs.declared.sweeping.Stage.TheVariants as stage
 
 module _ {K : Type 0} (P : Pages) (IsLeaf : ℕ → Type 0) (On Up : ℕ → K → Type 0) (c : LeavesCover P IsLeaf On Up)
     (Dirty : K → Type 0) (there : (k : K) → Dirty k → (x : ℕ) × IsLeaf x × On x k) (p : ℕ) (l : IsLeaf p) where
@@ -114,9 +113,9 @@ module _ (S : Log) (P : Pages) (told : PagesTold S P) (some : S ≢ []) (lead : 
     pub post_clean : (before page : ℕ) → IsPostLeaf P root page → IsAfter P dead root before page
         → ((i : ℕ) → In i dead → OnPostLeaf P page i → ⊥) → (i : ℕ) → UpPostLeaf P page i
         → IsDirtyItem P dead root i → ⊥
-    post_clean before page l after none =
+    post_clean before page l next none =
         passing P (IsPostLeaf P root) (OnPostLeaf P) (UpPostLeaf P) cover (IsDirtyItem P dead root)
-        (λ i d. (d.1.0, d.1.1, d.1.2)) page l (as_passed before page after) (λ i on d. none i d.0 on)
+        (λ i d. (d.1.0, d.1.1, d.1.2)) page l (as_passed before page next) (λ i on d. none i d.0 on)
 
     pub after_it : (page to : ℕ) → IsPostLeaf P root page → (P page).right ≡ to
         → ((i : ℕ) → UpPostLeaf P page i → IsDirtyItem P dead root i → ⊥) → IsAfter P dead root page to

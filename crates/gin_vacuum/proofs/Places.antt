@@ -1,5 +1,5 @@
 -- In a legal log the page that a sweep reads next is in its place.
-use Rattle.std.proofs.Common.{◌≡◌, ◌≢◌, ℕ, List, [], ◌∷◌, refl, sym, subst, ◌∙◌, arith}
+use Rattle.std.proofs.Common.{◌≡◌, ◌≢◌, ℕ, List, [], ◌∷◌, refl, sym, subst}
 use Rattle.std.specs.Prelude.{Option, Some, None, ⊤}
 use Rattle.page_types.specs.Pages.{IsPage, IsBody}
 use Rattle.page_types.specs.declared.page.Page.{Page}

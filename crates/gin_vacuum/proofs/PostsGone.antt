@@ -1,8 +1,8 @@
 -- A sweep after a leaf of a posting tree.
-use Rattle.std.proofs.Common.{◌≡◌, ◌≢◌, ◌<◌, ◌≤◌, ◌+◌, ◌*◌, ◌-◌, ◌^◌, ℕ, suc, List, [], ◌∷◌, length, refl, sym, ap}
+use Rattle.std.proofs.Common.{◌≡◌, ◌≢◌, ◌<◌, ◌+◌, ◌*◌, ◌-◌, ◌^◌, ℕ, suc, List, [], length, sym, ap}
 use Rattle.std.proofs.Common.{subst}
-use Rattle.std.proofs.Common.{◌∙◌, Bool, arith}
-use Rattle.std.specs.Prelude.{Option, Some, None}
+use Rattle.std.proofs.Common.{Bool, arith}
+use Rattle.std.specs.Prelude.{Some, None}
 use Rattle.std.specs.Option.{unwrap_or}
 use Rattle.page_types.specs.Pages.{IsPage, IsBody}
 use Rattle.core_state.specs.Log.{Log, Pages, Shows}

@@ -1,7 +1,7 @@
 -- What is read next after a leaf of a posting tree that dead items have left.
-use Rattle.std.proofs.Common.{◌≡◌, ◌≢◌, ◌⊎◌, ◌<◌, ◌≤◌, ◌+◌, ◌*◌, ◌-◌, ◌^◌, ℕ, zero, suc, List, [], ◌∷◌, length, refl}
-use Rattle.std.proofs.Common.{sym, ap, subst}
-use Rattle.std.proofs.Common.{◌∙◌, inl, inr, arith}
+use Rattle.std.proofs.Common.{◌≡◌, ◌≢◌, ◌<◌, ◌≤◌, ◌+◌, ◌*◌, ◌-◌, ◌^◌, ℕ, zero, suc, List, [], ◌∷◌, length, refl}
+use Rattle.std.proofs.Common.{ap, subst}
+use Rattle.std.proofs.Common.{◌∙◌, inr, arith}
 use Rattle.std.specs.Prelude.{Option, Some, None}
 use Rattle.std.specs.List.{slice_get}
 use Rattle.std.specs.Option.{unwrap_or}
@@ -25,13 +25,12 @@ use Rattle.gin_place.specs.Stepping.{reads_left, most_reads}
 use Rattle.gin_vacuum.specs.Inner.Reading.{IsCleaned, body_after}
 use Rattle.gin_vacuum.specs.Inner.Sweeping.{HasNextTree, GoesPast}
 use Rattle.gin_vacuum.specs.Stepping.{steps_left}
-use Rattle.gin_vacuum.specs.Sweeping.{LeadsOver, AreLeft, IsTreeAt, IsDirtyItem, IsAt}
-use Rattle.gin_vacuum.specs.declared.deleting.Empty.{Empty}
+use Rattle.gin_vacuum.specs.Sweeping.{LeadsOver, AreLeft, IsTreeAt, IsAt}
 use Rattle.gin_vacuum.specs.declared.sweeping.Sweeping.{Sweeping}
 use Rattle.gin_vacuum.specs.declared.sweeping.Stage.TheVariants as stage
 use Rattle.gin_vacuum.proofs.LeafWays.{leaf_way, root_not_leaf}
 use Rattle.gin_vacuum.proofs.Passing.{post_clean, past_at}
-use Rattle.gin_vacuum.proofs.Removed.{in_list, contained}
+use Rattle.gin_vacuum.proofs.Removed.{contained}
 use Rattle.gin_vacuum.proofs.TreesStay.{there_in}
 
 -- ── what is left on the leaf ──

@@ -1,5 +1,5 @@
 -- The step by which dead items leave a leaf.
-use Rattle.std.proofs.Common.{◌≡◌, ◌≢◌, ◌<◌, ◌≤◌, ◌-◌, ◌^◌, ℕ, List, [], ◌∷◌, length, refl, sym, ap, subst, ◌∙◌, inl}
+use Rattle.std.proofs.Common.{◌≡◌, ◌≢◌, ◌<◌, ◌-◌, ℕ, List, [], ◌∷◌, length, refl, sym, ap, subst, inl}
 use Rattle.std.proofs.Common.{inr, arith}
 use Rattle.std.proofs.Common.{length-drop, Some}
 use Rattle.disk_trait.specs.declared.device.Disk.{Ghosts as Disk}
@@ -9,7 +9,7 @@ use Rattle.page_types.specs.declared.page.Page.{Page}
 use Rattle.page_types.specs.declared.page.Body.{Body}
 use Rattle.page_types.specs.declared.page.Body.TheVariants as body
 use Rattle.page_types.specs.declared.record.Kind.TheVariants as kind
-use Rattle.core_state.specs.Log.{Log, In}
+use Rattle.core_state.specs.Log.{Log}
 use Rattle.core_state.specs.Allowed.{Sheet, Step, Owes}
 use Rattle.core_state.specs.Steps.{MayBy, sheet}
 use Rattle.core_vacuum.specs.VacuumSteps.{CanRemoveItems}
@@ -17,10 +17,9 @@ use Rattle.posting_tree.specs.Removing.{IsLeafLeft}
 use Rattle.posting_tree.specs.RemovalLogging.{Removes, LeftLeafIsLogged}
 use Rattle.gin_vacuum.proofs.Removed.{in_list}
 use Rattle.buffer_frames.specs.Frames.{FramesValue, Stands}
-use Rattle.buffer_frames.specs.Passes.{IsPassOf, view_of}
+use Rattle.buffer_frames.specs.Passes.{view_of}
 use Rattle.buffer_frames.specs.declared.pass.Pass.{Pass}
 use Rattle.buffer_frames.proofs.AtHand.{log_length}
-use Rattle.gin_place.specs.Placing.{HasRight}
 use Rattle.gin_place.proofs.Owing.{right_of}
 use Rattle.gin_vacuum.specs.Inner.Logging.{MayLogStep}
 use Rattle.gin_vacuum.specs.Inner.Sweeping.{IsRemoval}

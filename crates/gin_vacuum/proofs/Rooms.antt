@@ -1,5 +1,5 @@
 -- The pages that a head is tried on stay heap pages where slots become free.
-use Rattle.std.proofs.Common.{◌≡◌, ◌⊎◌, ◌≤◌, ◌<◌, ℕ, Bool, true, false, List, [], ◌∷◌, refl, sym, ap, subst, ◌∙◌, inl}
+use Rattle.std.proofs.Common.{◌≡◌, ◌⊎◌, ◌≤◌, ℕ, Bool, true, false, List, [], ◌∷◌, refl, sym, ap, subst, ◌∙◌, inl}
 use Rattle.std.proofs.Common.{inr, arith}
 use Rattle.std.specs.Prelude.{Option, Some, None, nat_lt, if◌then◌else◌}
 use Rattle.disk_trait.specs.declared.device.Disk.{Ghosts as Disk}
@@ -9,7 +9,7 @@ use Rattle.page_types.specs.declared.page.Page.{Page}
 use Rattle.page_types.specs.declared.record.Record.{Record}
 use Rattle.page_types.specs.declared.record.Kind.{Kind}
 use Rattle.page_types.specs.declared.record.Kind.TheVariants as kind
-use Rattle.core_state.specs.Log.{Log, Pages, In, changed}
+use Rattle.core_state.specs.Log.{Log, In, changed}
 use Rattle.core_state.specs.Lives.{IsHeapPage}
 use Rattle.core_state.specs.Legal.{IsLegal}
 use Rattle.core_state.specs.States.{StateValue, StateTells, state_of, step_of, stepped, noted, with_page, with_pages}

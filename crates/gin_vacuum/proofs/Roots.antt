@@ -1,15 +1,14 @@
 -- The roots that the first entries of a leaf name.
-use Rattle.std.proofs.Common.{◌≡◌, ◌≤◌, ◌+◌, ℕ, zero, suc, List, [], ◌∷◌, ◌++◌, length, take, refl, sym, ap, subst, ◌∙◌}
+use Rattle.std.proofs.Common.{◌≡◌, ◌≤◌, ◌+◌, ℕ, List, [], ◌∷◌, ◌++◌, length, take, refl, sym, ap, subst, ◌∙◌}
 use Rattle.std.proofs.Common.{inl, inr, arith, length-append, Some}
 use Rattle.std.proofs.lemmas.List.{take_all}
 use Rattle.std.specs.List.{slice_get}
 use Rattle.page_types.specs.declared.page.Entry.{Entry}
-use Rattle.page_types.specs.declared.page.Postings.TheVariants.{Inline, Root}
+use Rattle.page_types.specs.declared.page.Postings.TheVariants.{Root}
 use Rattle.page_types.specs.Parts.{postings_shown}
 use Rattle.page_types.specs.declared.entries.PostingsRef.{PostingsRef}
 use Rattle.page_types.specs.declared.entries.PostingsRef.TheVariants as by_ref
 use Rattle.page_types.proofs.Cutting.{take_get}
-use Rattle.core_state.specs.Log.{In}
 use Rattle.core_state.proofs.PageLists.{in_front, in_back, in_either}
 use Rattle.gin_vacuum.specs.Inner.Reading.{AreRoots}
 

@@ -4,7 +4,7 @@ use Rattle.std.proofs.Common.{ap, subst, ◌∙◌, arith, length-append, None, 
 use Rattle.std.proofs.lemmas.List.{drop-append-le, take-append-drop}
 use Rattle.disk_trait.specs.declared.device.Disk.{Ghosts as Disk}
 use Rattle.core_state.specs.Log.{Log, Pages, Shows, cut}
-use Rattle.core_state.specs.Allowed.{Sheet, View, IsAllowed, IsOthers, AreOthers}
+use Rattle.core_state.specs.Allowed.{Sheet, View, IsAllowed, AreOthers}
 use Rattle.core_state.specs.Legal.{IsLegal}
 use Rattle.core_state.specs.Steady.{IndexStays, EndsStay}
 use Rattle.core_state.proofs.Showing.{shown_one}

@@ -1,22 +1,19 @@
 -- How a whole sweep begins and ends.
-use Rattle.std.proofs.Common.{◌≡◌, ◌↔◌, ℕ, List, [], ◌∷◌, ◌++◌, refl, sym, ap, subst, ◌∙◌, arith, Ok, Err, Bool, true}
-use Rattle.std.proofs.Common.{false}
-use Rattle.std.specs.Prelude.{Option, Some, None, Result, IfOk, OnOk, OnErr}
+use Rattle.std.proofs.Common.{◌≡◌, ℕ, List, [], ◌++◌, refl, sym, subst, arith, Ok, Err, Bool}
+use Rattle.std.specs.Prelude.{Result}
 use Rattle.std.specs.List.{AllByRecursion}
 use Rattle.disk_trait.specs.declared.device.Disk.{Ghosts as Disk}
-use Rattle.core_state.specs.Log.{Log, Pages, In}
 use Rattle.core_state.specs.TreeRules.{Toward}
 use Rattle.core_maintenance.specs.Keeping.{HistoryHolds}
 use Rattle.buffer_frames.specs.Frames.{FramesValue}
-use Rattle.buffer_frames.specs.Passes.{IsPassOf, Seen}
+use Rattle.buffer_frames.specs.Passes.{IsPassOf}
 use Rattle.buffer_frames.specs.declared.pass.Pass.{Pass}
-use Rattle.gin_place.specs.Causes.{Finds, NoBadPage}
-use Rattle.gin_place.specs.Faults.{MetNoFault, FaultBy}
+use Rattle.gin_place.specs.Faults.{MetNoFault}
 use Rattle.gin_place.specs.declared.error.PlaceError.{PlaceError}
 use Rattle.gin_place.specs.declared.error.PlaceError.TheVariants.{OutOfMemory}
 use Rattle.gin_place.proofs.Causing.{finds_as}
 use Rattle.gin_place.proofs.Carrying.{reads_still, same_added}
-use Rattle.gin_place.proofs.Faults.{fine_still, fine_then}
+use Rattle.gin_place.proofs.Faults.{fine_still}
 use Rattle.gin_vacuum.specs.Vacuum.{AreDead, AreSwept}
 use Rattle.gin_vacuum.specs.Going.{VacuumsOn}
 use Rattle.gin_vacuum.specs.Ending.{VacuumMeets, NeverBad}
@@ -24,7 +21,6 @@ use Rattle.gin_vacuum.specs.Sweeping.{AreLeftDown, IsAt, HasHigh, IsSweeping}
 use Rattle.gin_vacuum.specs.Stepping.{IsSweepKind, HasSwept, IsCause, IsBad, IsBadIn}
 use Rattle.gin_vacuum.specs.Inner.Sweeping.{begun}
 use Rattle.gin_vacuum.specs.declared.sweeping.Sweeping.{Sweeping}
-use Rattle.gin_vacuum.specs.declared.sweeping.Stage.{Stage}
 use Rattle.gin_vacuum.specs.declared.sweeping.Stage.TheVariants as stage
 use Rattle.gin_vacuum.proofs.Endings.{never_bad, meets_by}
 use Rattle.gin_vacuum.proofs.InTurn.{all_then, vacuums_in_turn}

@@ -1,9 +1,8 @@
 -- A sweep after calls that log nothing.
-use Rattle.std.proofs.Common.{◌≡◌, ◌≤◌, ℕ, List, [], refl, sym, ap, subst, ◌∙◌, arith}
+use Rattle.std.proofs.Common.{◌≤◌, ℕ, List, []}
 use Rattle.disk_trait.specs.declared.device.Disk.{Ghosts as Disk}
 use Rattle.core_state.specs.Log.{Log, Pages, In}
 use Rattle.core_state.specs.VacuumRules.{MayLeave}
-use Rattle.core_state.specs.Documents.{Doc, IsDead}
 use Rattle.core_state.specs.Allowed.{Sheet}
 use Rattle.core_vacuum.proofs.Out.{leave_kept}
 use Rattle.buffer_frames.specs.Frames.{FramesValue}
@@ -17,7 +16,7 @@ use Rattle.gin_vacuum.specs.declared.sweeping.Sweeping.{Sweeping}
 use Rattle.gin_vacuum.specs.declared.sweeping.Stage.{Stage}
 use Rattle.gin_vacuum.proofs.FoundDead.{dead_more}
 use Rattle.gin_vacuum.proofs.Kept.{at_then}
-use Rattle.gin_vacuum.proofs.StaysOn.{StaysOn, seen_on}
+use Rattle.gin_vacuum.proofs.StaysOn.{seen_on}
 
 pub leave_more : (S : Log) (P : Pages) (n m i : ℕ) → n ≤ m → MayLeave S P n i → MayLeave S P m i
 leave_more S P n m i le x = record {

@@ -1,12 +1,11 @@
 -- A step of a sweep after calls that log nothing.
-use Rattle.std.proofs.Common.{◌≡◌, ◌≤◌, ℕ, List, [], ◌∷◌, length, refl, Result, Ok, Err}
+use Rattle.std.proofs.Common.{ℕ, List, [], Result, Ok, Err}
 use Rattle.disk_trait.specs.declared.device.Disk.{Ghosts as Disk}
 use Rattle.core_maintenance.specs.Keeping.{HistoryHolds}
 use Rattle.buffer_frames.specs.Frames.{FramesValue}
 use Rattle.buffer_frames.specs.declared.pass.Pass.{Pass}
-use Rattle.gin_place.specs.Causes.{Finds}
 use Rattle.gin_place.specs.Going.{WorksOn}
-use Rattle.gin_place.specs.Faults.{MetNoFault, FaultBy}
+use Rattle.gin_place.specs.Faults.{MetNoFault}
 use Rattle.gin_place.specs.declared.error.PlaceError.{PlaceError}
 use Rattle.gin_place.proofs.Causing.{finds_after, lawful_before}
 use Rattle.gin_place.proofs.Faults.{fine_then, told_then}

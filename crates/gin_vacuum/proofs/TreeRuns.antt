@@ -1,7 +1,7 @@
 -- The walks through the trees of a legal log have fewer pages than there are.
-use Rattle.std.proofs.Common.{◌≡◌, ◌≢◌, ◌⊎◌, ◌+◌, ◌<◌, ◌≤◌, ℕ, zero, suc, List, [], ◌∷◌, ◌++◌, length, refl, sym, ap}
+use Rattle.std.proofs.Common.{◌≡◌, ◌≢◌, ◌<◌, ℕ, zero, suc, List, [], ◌∷◌, refl, sym, ap}
 use Rattle.std.proofs.Common.{subst, ◌∙◌}
-use Rattle.std.proofs.Common.{inl, inr, arith}
+use Rattle.std.proofs.Common.{inl, arith}
 use Rattle.ts_base.specs.Keys.{Key}
 use Rattle.page_types.specs.Numbers.{item_limit}
 use Rattle.page_types.specs.declared.page.EntryChild.{EntryChild}

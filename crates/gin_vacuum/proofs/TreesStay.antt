@@ -1,5 +1,5 @@
 -- What a sweep goes by stays so where the trees stay but for items of their lists.
-use Rattle.std.proofs.Common.{◌≡◌, ◌≢◌, ℕ, zero, suc, List, [], ◌∷◌, ◌++◌, take, refl, sym, ap, subst, ◌∙◌, inl, inr}
+use Rattle.std.proofs.Common.{◌≡◌, ℕ, zero, suc, List, [], ◌∷◌, ◌++◌, take, refl, sym, ap, subst, ◌∙◌, inl, inr}
 use Rattle.std.specs.Prelude.{Option, Some, None}
 use Rattle.std.specs.List.{slice_get}
 use Rattle.ts_base.specs.Keys.{Key}
@@ -19,9 +19,8 @@ use Rattle.core_state.specs.PagesTold.{IsEntryLeaf, UpEntryLeaf, IsPostLeaf, OnP
 use Rattle.core_state.proofs.Trees.Members.{in_middle}
 use Rattle.core_maintenance.specs.Leading.{IsHigh, IsHighPost}
 use Rattle.core_maintenance.proofs.Ways.{kid_below, post_kid_below, toward_below, toward_item_below}
-use Rattle.core_vacuum.specs.Leaves.{IsFirst}
 use Rattle.gin_vacuum.specs.Sweeping.{IsDirty, IsDirtyItem, IsCleanTree, Passed, IsPassed, IsLeafAt, IsTreeAt, IsAfter}
-use Rattle.gin_vacuum.specs.Sweeping.{LeadsOver, AreLeft, AreLeftBelow, AreLeftDown, IsHighLeft, IsEmptyLeaf, IsAt}
+use Rattle.gin_vacuum.specs.Sweeping.{LeadsOver, AreLeft, AreLeftDown, IsHighLeft, IsEmptyLeaf, IsAt}
 use Rattle.gin_vacuum.specs.declared.deleting.Empty.{Empty}
 use Rattle.gin_vacuum.specs.declared.sweeping.Sweeping.{Sweeping}
 use Rattle.gin_vacuum.specs.declared.sweeping.Stage.{Stage}

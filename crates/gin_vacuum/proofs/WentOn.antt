@@ -1,17 +1,15 @@
 -- How far slots have become free after a step.
-use Rattle.std.proofs.Common.{◌≡◌, ◌≢◌, ◌<◌, ◌≤◌, ◌-◌, ℕ, List, [], ◌∷◌, length, take, drop, get_or, refl, sym, ap}
-use Rattle.std.proofs.Common.{subst, ◌∙◌}
+use Rattle.std.proofs.Common.{◌≡◌, ◌≢◌, ◌<◌, ◌≤◌, ◌-◌, ℕ, List, [], ◌∷◌, length, take, drop, get_or, refl, ap}
+use Rattle.std.proofs.Common.{◌∙◌}
 use Rattle.std.proofs.Common.{inl, inr, arith, Result, Ok, Err}
-use Rattle.std.specs.Prelude.{Some, None, OnOk, OnErr}
+use Rattle.std.specs.Prelude.{None, OnOk, OnErr}
 use Rattle.disk_trait.specs.declared.device.Disk.{Ghosts as Disk}
 use Rattle.page_types.specs.Views.{slots_in, slot_at}
-use Rattle.page_types.specs.Records.{kind_number}
 use Rattle.page_types.specs.declared.page.Page.{Page}
 use Rattle.core_state.specs.Log.{Log, Pages, In}
 use Rattle.core_state.specs.Documents.{page_of, slot_of, head_of}
-use Rattle.core_state.specs.Allowed.{Sheet, Step}
+use Rattle.core_state.specs.Allowed.{Sheet}
 use Rattle.core_state.specs.RecordKeeps.{RecordsKeep}
-use Rattle.core_maintenance.specs.Keeping.{HistoryHolds}
 use Rattle.core_vacuum.specs.Leaving.{IsOut}
 use Rattle.core_vacuum.specs.Keeping.{VacuumHolds}
 use Rattle.core_vacuum.specs.Staying.{RightKeepsOut}
@@ -25,7 +23,7 @@ use Rattle.gin_place.specs.Holding.{ReadsOn}
 use Rattle.gin_place.specs.Placing.{HasRight}
 use Rattle.gin_place.proofs.Carrying.{right_on}
 use Rattle.gin_vacuum.specs.Freeing.{WasFree, IsFreeing}
-use Rattle.gin_vacuum.specs.Inner.Freeing.{IsChained, AreFree, LogsDrop, LogsFree}
+use Rattle.gin_vacuum.specs.Inner.Freeing.{IsChained, LogsDrop, LogsFree}
 use Rattle.gin_vacuum.specs.declared.freeing.Chained.{Chained}
 use Rattle.gin_vacuum.specs.declared.freeing.Freeing.{Freeing}
 use Rattle.gin_vacuum.proofs.FreeingOn.{freeing_on, dropped_on, group_on}
@@ -58,8 +56,8 @@ module _ {D : Type 0} (device : Disk D) (stay : RightKeepsOut) (vacuum : VacuumH
       c held_then in
       dropped_on device stay vacuum keep logs.frames_held h logs.pass_held r
       (logs.page ∷ heap ∷ []) logs.step to.is_pass
-      (right_on device g logs.frames_held q logs.pass_held [] right_now to) logs.logged heap logs.page found logs.is_step ch
-      number began items c mid
+      (right_on device g logs.frames_held q logs.pass_held [] right_now to) logs.logged heap logs.page found
+      logs.is_step ch number began items c mid
   dropped (Err e) found ch number logs refused = read_then refused
 
   -- no item of the group has a free slot

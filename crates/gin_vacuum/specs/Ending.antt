@@ -11,8 +11,7 @@ use Rattle.buffer_frames.specs.declared.pass.Pass.{Pass}
 use Rattle.gin_place.specs.Causes.{HasNumbers}
 use Rattle.gin_place.specs.Faults.{MetNoFault}
 use Rattle.gin_place.specs.declared.error.PlaceError.{PlaceError}
-use Rattle.gin_place.specs.declared.error.PlaceError.TheVariants.{StoreFull, LogFull, DiskFault, Down, BadPage}
-use Rattle.gin_place.specs.declared.error.PlaceError.TheVariants.{OutOfMemory}
+use Rattle.gin_place.specs.declared.error.PlaceError.TheVariants.{BadPage}
 use Rattle.gin_vacuum.specs.Going.{VacuumsOn}
 
 module _ {D : Type 0} (device : Disk D) where

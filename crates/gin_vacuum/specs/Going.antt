@@ -2,13 +2,14 @@
 use Rattle.std.specs.Prelude.{◌≡◌, ◌<◌, ◌≤◌, ℕ, List, length}
 use Rattle.std.specs.List.{AllByRecursion}
 use Rattle.disk_trait.specs.declared.device.Disk.{Ghosts as Disk}
-use Rattle.wal.specs.Waiting.{limit_of, length_with, down_of}
+use Rattle.wal.specs.Waiting.{limit_of, length_with}
 use Rattle.page_types.specs.Records.{kind_number}
 use Rattle.core_state.specs.Log.{Log, In}
 use Rattle.core_state.specs.Allowed.{Step}
 use Rattle.core_state.specs.History.{History, IsHistory}
 use Rattle.core_state.specs.States.{StateValue, heap_pages}
 use Rattle.buffer_frames.specs.Beginnings.{BeginsBy}
+use Rattle.buffer_frames.specs.Drawing.{HasEncoding}
 use Rattle.buffer_frames.specs.Frames.{FramesValue, RunsOn}
 use Rattle.buffer_frames.specs.Journals.{logged_bytes, next_record}
 use Rattle.buffer_frames.specs.Passes.{IsPassOf, GoesOnBy, HasAdded, PassRises}
@@ -56,9 +57,10 @@ pub record VacuumsOn {D : Type 0} (device : Disk D) (f : FramesValue D) (pass : 
   pub begins : BeginsThen device f f' kinds
   pub rooms : KeepsRooms device f f'
 
--- the log would pass its limit with the record of such a step
+-- the log would pass its limit with the record of such a step that has one
 pub record HasNoRoom {D : Type 0} (f : FramesValue D) : Type 0 where
   pub step : Step
   pub vacuum : IsVacuumKind (kind_number step.kind)
+  pub encoded : HasEncoding step
   pub pages : length step.after ≤ 3
   pub over : limit_of f.journal.wal < length_with f.journal.wal (logged_bytes f.journal (next_record f.journal step))

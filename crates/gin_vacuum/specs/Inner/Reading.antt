@@ -1,5 +1,5 @@
 -- What is read of a leaf from which dead items go.
-use Rattle.std.specs.Prelude.{◌≡◌, ◌↔◌, ◌≤◌, ℕ, List, [], length, Bool, true, Option, Some, None, IfSome, IfNone}
+use Rattle.std.specs.Prelude.{◌≡◌, ◌↔◌, ◌≤◌, ℕ, List, [], length, true, Option, Some, None, IfSome, IfNone}
 use Rattle.std.specs.List.{Contains}
 use Rattle.page_types.specs.Pages.{IsPage}
 use Rattle.page_types.specs.Views.{entries_in, posting_items_in}

@@ -1,7 +1,6 @@
 -- What is read next after a leaf, and what is so once dead items have left one.
-use Rattle.std.specs.Prelude.{◌≡◌, ◌≢◌, ◌<◌, ◌+◌, ◌≤◌, ℕ, List, [], ◌∷◌, length, Option, Some, None, Vec, Bool, true}
-use Rattle.std.specs.List.{slice_get, Contains}
-use Rattle.std.specs.declared.alloc.Global.{Global}
+use Rattle.std.specs.Prelude.{◌≡◌, ◌≢◌, ◌+◌, ◌≤◌, ℕ, List, [], ◌∷◌, length, Option, Some, None, Bool, true}
+use Rattle.std.specs.List.{slice_get}
 use Rattle.disk_trait.specs.declared.device.Disk.{Ghosts as Disk}
 use Rattle.page_types.specs.declared.page.Page.{Page}
 use Rattle.page_types.specs.declared.record.Kind.TheVariants as kind
@@ -9,7 +8,7 @@ use Rattle.core_state.specs.Allowed.{Sheet}
 use Rattle.core_state.specs.States.{StateTells}
 use Rattle.core_state.specs.Steps.{sheet}
 use Rattle.buffer_frames.specs.Frames.{FramesValue}
-use Rattle.buffer_frames.specs.Passes.{IsPassOf, IsHolding, Seen, IsLogged, view_of}
+use Rattle.buffer_frames.specs.Passes.{IsPassOf, IsHolding, Seen}
 use Rattle.buffer_frames.specs.declared.pass.Pass.{Pass}
 use Rattle.gin_place.specs.Holding.{ReadsOn}
 use Rattle.gin_place.specs.Placing.{HasRight}

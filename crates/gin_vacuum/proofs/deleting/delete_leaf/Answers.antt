@@ -1,4 +1,4 @@
-use Rattle.std.proofs.Common.{◌≡◌, [], ◌∷◌}
+use Rattle.std.proofs.Common.{[], ◌∷◌}
 use Rattle.gin_place.specs.Causes.{Finds}
 use Rattle.gin_place.specs.Holding.{ReadsOn}
 use Rattle.gin_place.proofs.Carrying.{reads_in_turn, right_on}

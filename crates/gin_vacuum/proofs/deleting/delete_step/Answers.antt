@@ -1,4 +1,4 @@
-use Rattle.std.proofs.Common.{◌≡◌, ◌∙◌, ℕ, ap, arith}
+use Rattle.std.proofs.Common.{◌∙◌, ℕ, ap, arith}
 use Rattle.core_state.specs.Steps.{sheet}
 use Rattle.gin_vacuum.specs.Inner.Deleting.{deleted_leaf}
 use Rattle.gin_vacuum.proofs.DeleteMade.{delete_made}

@@ -1,4 +1,4 @@
-use Rattle.std.proofs.Common.{◌≡◌, [], ◌∷◌, sym, subst}
+use Rattle.std.proofs.Common.{[], ◌∷◌, sym, subst}
 use Rattle.std.specs.Prelude.{Option}
 use Rattle.core_state.specs.Allowed.{Sheet}
 use Rattle.buffer_frames.specs.Passes.{IsHolding}

@@ -1,7 +1,7 @@
-use Rattle.std.proofs.Common.{◌≡◌, ◌∙◌, [], ◌∷◌, refl, sym, arith}
+use Rattle.std.proofs.Common.{[], ◌∷◌, refl, sym, arith}
 use Rattle.gin_place.proofs.Carrying.{reads_in_turn, right_on}
 use Rattle.gin_place.proofs.Causing.{Later, finds_after}
-use Rattle.gin_place.proofs.Faults.{calm_fine, fine_then, told_then, told_back}
+use Rattle.gin_place.proofs.Faults.{fine_then, told_then, told_back}
 use Rattle.gin_vacuum.specs.Stepping.{IsCause}
 use Rattle.gin_vacuum.specs.Inner.Deleting.{with_before, IsBadAround}
 use Rattle.gin_vacuum.proofs.AroundHeld.{few_before, found_on, found_later}

@@ -97,8 +97,8 @@ returns-in_err-finding-clause-fault g c =
 
 pub returns-in_err-more-clause-reads : goal.returns-in_err-more-clause-reads
 returns-in_err-more-clause-reads g c =
-    reads_in_turn g.D.Disk c.args.frames.now c.loop-more.frames c.step.new.frames c.args.pass.now c.loop-more.pass c.step.new.pass
-    c.loop-more.invariant.reads c.step.ensures.reads
+    reads_in_turn g.D.Disk c.args.frames.now c.loop-more.frames c.step.new.frames c.args.pass.now c.loop-more.pass
+    c.step.new.pass c.loop-more.invariant.reads c.step.ensures.reads
 
 pub returns-in_err-more-clause-cause : goal.returns-in_err-more-clause-cause
 returns-in_err-more-clause-cause g c =
@@ -115,8 +115,8 @@ returns-in_err-more-clause-lawful g c =
     let p = err_from_is_err_and c.from_residual-in_err-more.result c.from_residual-in_err-more.ensures.1 in
     let w = c.in_err-more.field-0.0 in
     at_exit (NoBadPage g.D.Disk c.args.frames.now) c.from_residual-in_err-more.result p.0 w p.1 p.2
-    (lawful_before g.D.Disk c.args.frames.now c.loop-more.frames c.args.pass.now c.loop-more.pass c.loop-more.invariant.reads.works
-    c.loop-more.invariant.fine w c.in_err-more.ensures.lawful)
+    (lawful_before g.D.Disk c.args.frames.now c.loop-more.frames c.args.pass.now c.loop-more.pass
+    c.loop-more.invariant.reads.works c.loop-more.invariant.fine w c.in_err-more.ensures.lawful)
 
 pub returns-in_err-more-clause-fault : goal.returns-in_err-more-clause-fault
 returns-in_err-more-clause-fault g c =

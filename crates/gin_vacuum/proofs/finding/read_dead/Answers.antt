@@ -43,7 +43,8 @@ pub returns-in_err-held-clause-still : goal.returns-in_err-held-clause-still
 returns-in_err-held-clause-still g c =
     λ from floor next items x.
     found_still g.D.Disk c.steady_hold.ensures c.args.frames.now c.hold_page.new.frames c.args.pass.now
-    c.hold_page.new.pass c.requires.pass c.requires.right c.requires.none c.hold_page.ensures.reads from floor next items x
+    c.hold_page.new.pass c.requires.pass c.requires.right c.requires.none c.hold_page.ensures.reads from floor next
+    items x
 
 pub returns-in_err-held-clause-none_held : goal.returns-in_err-held-clause-none_held
 returns-in_err-held-clause-none_held g c =

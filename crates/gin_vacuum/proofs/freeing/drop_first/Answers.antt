@@ -1,4 +1,4 @@
-use Rattle.std.proofs.Common.{◌≡◌, ◌<◌, ◌^◌, ◌∙◌, [], ◌∷◌, sym, ap, subst, arith}
+use Rattle.std.proofs.Common.{◌<◌, ◌^◌, ◌∙◌, [], ◌∷◌, sym, ap, subst, arith}
 use Rattle.std.specs.Prelude.{Option, IfSome, IfNone}
 use Rattle.page_types.specs.Pages.{IsPage}
 use Rattle.core_state.specs.Allowed.{Sheet, Step}

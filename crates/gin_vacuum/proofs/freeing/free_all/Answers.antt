@@ -1,4 +1,4 @@
-use Rattle.std.proofs.Common.{◌≡◌, [], sym, subst}
+use Rattle.std.proofs.Common.{[], sym, subst}
 use Rattle.std.specs.Prelude.{Option, IfSome}
 use Rattle.core_state.specs.Allowed.{Step}
 use Rattle.gin_place.specs.Causes.{Finds}

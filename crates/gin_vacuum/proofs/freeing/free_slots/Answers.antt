@@ -1,13 +1,11 @@
-use Rattle.std.proofs.Common.{◌≡◌, ◌∙◌, ℕ, List, [], ◌++◌, false, refl, sym, ap, subst, arith, rules, Err}
+use Rattle.std.proofs.Common.{◌≡◌, [], ◌++◌, false, rules}
 use Rattle.std.proofs.lemmas.Result.{err_from_is_err_and}
-use Rattle.std.specs.List.{AllByRecursion}
 use Rattle.gin_place.specs.Faults.{FaultBy}
 use Rattle.gin_place.specs.declared.error.PlaceError.{PlaceError}
 use Rattle.gin_place.specs.declared.error.PlaceError.TheVariants.{OutOfMemory}
 use Rattle.gin_place.proofs.Carrying.{reads_still, same_added}
 use Rattle.gin_place.proofs.Causing.{at_exit, finds_now}
 use Rattle.gin_place.proofs.Faults.{fine_still, fine_then, told_then}
-use Rattle.gin_vacuum.specs.Going.{VacuumsOn}
 use Rattle.gin_vacuum.specs.Ending.{VacuumMeets, NeverBad}
 use Rattle.gin_vacuum.specs.Freeing.{IsFreeKind, CannotFree}
 use Rattle.gin_vacuum.proofs.Endings.{never_bad, meets_by}

@@ -1,7 +1,6 @@
-use Rattle.std.proofs.Common.{◌≡◌, ◌∙◌, [], sym, ap, subst, Err}
+use Rattle.std.proofs.Common.{◌∙◌, [], sym, ap, subst, Err}
 use Rattle.std.proofs.lemmas.Result.{err_from_is_err_and}
 use Rattle.std.proofs.lemmas.Bool.{false≢true}
-use Rattle.std.specs.Prelude.{false, true}
 use Rattle.buffer_frames.specs.Frames.{Lies}
 use Rattle.gin_place.specs.Causes.{Finds, CannotUse}
 use Rattle.gin_place.specs.declared.error.PlaceError.TheVariants.{BadPage}

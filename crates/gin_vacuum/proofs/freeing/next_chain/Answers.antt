@@ -1,4 +1,4 @@
-use Rattle.std.proofs.Common.{ℕ, get_or, take, sym, ap, subst, ◌∙◌, inl, inr, arith}
+use Rattle.std.proofs.Common.{ℕ, get_or, take, sym, subst, inl, inr, arith}
 use Rattle.std.proofs.lemmas.List.{take_all, take_more}
 use Rattle.core_state.specs.Log.{In}
 use Rattle.gin_vacuum.specs.Inner.Freeing.{HasNoChain}

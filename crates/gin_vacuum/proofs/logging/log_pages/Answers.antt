@@ -34,7 +34,8 @@ pub returns-clause-logged : goal.returns-clause-logged
 returns-clause-logged g c =
     let e = c.log_step.ensures in
     let f = c.in_ok-log_step.ensures in
-    logs_by g.D.Disk c.placing_keeps.ensures.history c.heap_pages_stand.ensures c.args.frames.now c.log_step.new.self c.args.pass.now
+    logs_by g.D.Disk c.placing_keeps.ensures.history c.heap_pages_stand.ensures c.args.frames.now c.log_step.new.self
+    c.args.pass.now
     c.log_step.new.pass c.args.pages.items c.args.step c.requires c.log_step.result e.cause f.logged f.state e.runs_on
     f.begins f.added f.seen f.all e.rises e.pass e.same.0 e.same.1
     (xid_same c.args.step.kind c.requires.vacuum _ c.args.pass.now.xid f.xid) e.work e.pins
@@ -46,7 +47,8 @@ returns-in_err-log_step-clause-cause g c =
     at_exit (λ x. CannotLog g.D.Disk c.log_step.new.self x c.args.frames.now c.args.pass.now)
     c.from_residual.result p.0 (log_refusal c.in_err-log_step.field-0.0) p.1 p.2
     (log_cause g.D.Disk c.args.frames.now c.log_step.new.self c.args.pass.now c.args.step c.log_step.result
-    c.in_err-log_step.field-0.0 c.requires.vacuum c.requires.pages c.in_err-log_step.was e.full e.is_down e.cause)
+    c.in_err-log_step.field-0.0 c.requires.vacuum c.requires.encoded c.requires.pages c.in_err-log_step.was e.full
+    e.is_down e.cause)
 
 pub returns-in_err-log_step-clause-fault : goal.returns-in_err-log_step-clause-fault
 returns-in_err-log_step-clause-fault g c =

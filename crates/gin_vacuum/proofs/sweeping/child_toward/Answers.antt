@@ -1,4 +1,4 @@
-use Rattle.std.proofs.Common.{◌≡◌, sym, subst}
+use Rattle.std.proofs.Common.{sym, subst}
 use Rattle.posting_tree.specs.Reading.{IsPostBody}
 use Rattle.gin_vacuum.proofs.ParentSteps.{only_down}
 use Rattle.gin_vacuum.proofs.sweeping.child_toward.Goals as goal

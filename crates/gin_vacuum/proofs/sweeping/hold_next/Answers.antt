@@ -1,4 +1,4 @@
-use Rattle.std.proofs.Common.{ℕ, Err, [], ◌∷◌, suc, refl, sym, ap, subst, ◌∙◌, inl, inr, arith, ◌⊎◌, ◌≡◌}
+use Rattle.std.proofs.Common.{Err, [], refl, sym, ap, ◌∙◌, inl, inr, ◌⊎◌, ◌≡◌}
 use Rattle.std.specs.Prelude.{⊤}
 use Rattle.std.proofs.lemmas.Result.{err_from_is_err_and}
 use Rattle.page_types.specs.declared.page.Page.{Page}
@@ -7,7 +7,7 @@ use Rattle.gin_place.proofs.Carrying.{reads_in_turn}
 use Rattle.gin_place.proofs.Causing.{at_exit, finds_as}
 use Rattle.gin_place.specs.declared.error.PlaceError.TheVariants.{BadPage}
 use Rattle.gin_vacuum.specs.Stepping.{IsCause, IsSpent}
-use Rattle.gin_vacuum.proofs.SweepCauses.{hold_cause, lower_left, spent}
+use Rattle.gin_vacuum.proofs.SweepCauses.{hold_cause, spent}
 use Rattle.gin_vacuum.proofs.sweeping.hold_next.Goals as goal
 
 pub returns-in_err-held-clause-cause : goal.returns-in_err-held-clause-cause

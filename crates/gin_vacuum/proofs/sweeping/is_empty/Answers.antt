@@ -1,4 +1,4 @@
-use Rattle.std.proofs.Common.{List, ℕ, ◌≡◌, eqb, length, subst, ◌∙◌, ap}
+use Rattle.std.proofs.Common.{List, ℕ, eqb, length, ◌∙◌, ap}
 use Rattle.gin_vacuum.proofs.Remains.{empty_by}
 use Rattle.gin_vacuum.proofs.sweeping.is_empty.Goals as goal
 

@@ -1,6 +1,4 @@
 use Rattle.std.proofs.Common.{[], ◌∷◌, sym, subst}
-use Rattle.std.specs.Prelude.{Some}
-use Rattle.gin_place.proofs.Faults.{calm_fine}
 use Rattle.gin_vacuum.specs.Inner.Logging.{MayLogStep}
 use Rattle.gin_vacuum.specs.Inner.Sweeping.{IsRemoval}
 use Rattle.gin_vacuum.proofs.Removals.{removal_may_log}

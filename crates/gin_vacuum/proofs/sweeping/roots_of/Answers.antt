@@ -1,4 +1,4 @@
-use Rattle.std.proofs.Common.{◌+◌, ℕ, length, sym, ap, subst, ◌∙◌, arith, Vec, Global}
+use Rattle.std.proofs.Common.{ℕ, sym, ap, subst, ◌∙◌, arith, Vec, Global}
 use Rattle.page_types.specs.Parts.{entry_shown, postings_shown}
 use Rattle.gin_vacuum.specs.Inner.Reading.{AreRoots}
 use Rattle.gin_vacuum.proofs.Roots.{shown_root, roots_none, roots_more, roots_same, roots_all}

@@ -1,10 +1,9 @@
-use Rattle.std.proofs.Common.{◌≡◌, [], ◌++◌, Err, refl, sym, ap, subst, ◌∙◌, rules}
+use Rattle.std.proofs.Common.{[], rules}
 use Rattle.std.proofs.lemmas.Result.{err_from_is_err_and}
-use Rattle.gin_place.specs.Faults.{FaultBy}
 use Rattle.gin_place.proofs.Causing.{at_exit}
-use Rattle.gin_place.proofs.Faults.{fine_still, fine_then, told_then}
+use Rattle.gin_place.proofs.Faults.{fine_still, fine_then}
 use Rattle.gin_vacuum.specs.Ending.{VacuumMeets, NeverBad}
-use Rattle.gin_vacuum.specs.Stepping.{IsCause, IsBadIn, HasSwept}
+use Rattle.gin_vacuum.specs.Stepping.{IsCause, IsBadIn}
 use Rattle.gin_vacuum.proofs.InTurn.{vacuum_right}
 use Rattle.gin_vacuum.proofs.SweepEnds.{sweep_begins, nothing_done, swept_more, sweep_cause, sweep_lawful, sweep_spent}
 use Rattle.gin_vacuum.proofs.SweepEnds.{sweep_ends}

@@ -1,4 +1,4 @@
-use Rattle.std.proofs.Common.{◌≡◌, ◌⊎◌, ◌<◌, ℕ, suc, List, [], length, sym, ap, subst₂, ◌∙◌, inl, inr, arith}
+use Rattle.std.proofs.Common.{◌≡◌, ◌⊎◌, [], sym, subst₂, ◌∙◌, inl, inr, arith}
 use Rattle.std.proofs.lemmas.Result.{err_from_is_err_and}
 use Rattle.gin_place.specs.Causes.{Finds, NoBadPage}
 use Rattle.gin_place.specs.Faults.{FaultBy}
@@ -104,8 +104,8 @@ returns-in_err-walk-clause-fault g c =
 
 pub returns-in_err-read-clause-reads : goal.returns-in_err-read-clause-reads
 returns-in_err-read-clause-reads g c =
-    reads_in_turn g.D.Disk c.args.frames.now c.loop-walk.frames c.read.new.frames c.args.pass.now c.loop-walk.pass c.read.new.pass
-    c.loop-walk.invariant.reads c.read.ensures.reads
+    reads_in_turn g.D.Disk c.args.frames.now c.loop-walk.frames c.read.new.frames c.args.pass.now c.loop-walk.pass
+    c.read.new.pass c.loop-walk.invariant.reads c.read.ensures.reads
 
 pub returns-in_err-read-clause-dead : goal.returns-in_err-read-clause-dead
 returns-in_err-read-clause-dead g c =

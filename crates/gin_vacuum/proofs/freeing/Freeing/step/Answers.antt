@@ -1,4 +1,4 @@
-use Rattle.std.proofs.Common.{◌≡◌, ◌≤◌, ◌∙◌, ℕ, List, [], length, false, true, refl, sym, ap, subst, arith, Err, Ok}
+use Rattle.std.proofs.Common.{◌≤◌, ◌∙◌, ℕ, List, [], length, refl, sym, ap, subst, arith, Err}
 use Rattle.std.proofs.lemmas.Bool.{ltb-false, le-ltb}
 use Rattle.std.proofs.lemmas.Result.{err_from_is_err_and}
 use Rattle.gin_place.proofs.Carrying.{reads_still, same_added}

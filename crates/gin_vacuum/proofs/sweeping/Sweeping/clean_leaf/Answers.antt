@@ -1,4 +1,4 @@
-use Rattle.std.proofs.Common.{◌≡◌, [], ◌∷◌, refl, sym, ap, subst, ◌∙◌, Err}
+use Rattle.std.proofs.Common.{[], refl, sym, ap, subst, ◌∙◌, Err}
 use Rattle.std.specs.Prelude.{Option, IfSome, IfNone}
 use Rattle.std.proofs.lemmas.Result.{err_from_is_err_and}
 use Rattle.page_types.specs.declared.page.Page.{Page}
@@ -67,7 +67,8 @@ log_cleaned-requires g c =
       removal = (
         c.args.dead.now,
         removal_held g.D.Disk c.placing_keeps.ensures.history c.args.frames.now c.hold_next.new.frames c.args.pass.now
-            c.hold_next.new.pass c.requires.right c.requires.pass c.requires.none e.reads c.args.dead.now c.args.self.now
+            c.hold_next.new.pass c.requires.right c.requires.pass c.requires.none e.reads c.args.dead.now
+            c.args.self.now
             c.requires.sweeping c.hold_next.new.frames c.hold_next.new.pass c.in_ok-held.held c.in-Ok-Some.read.cleaned
             e.holding e.seen x.cleaned,
       );
@@ -75,7 +76,8 @@ log_cleaned-requires g c =
 
 pub returns-in_err-log_cleaned-clause-swept : goal.returns-in_err-log_cleaned-clause-swept
 returns-in_err-log_cleaned-clause-swept g c =
-    let p = err_from_is_err_and c.from_residual-in_err-log_cleaned.result c.from_residual-in_err-log_cleaned.ensures.1 in
+    let p =
+    err_from_is_err_and c.from_residual-in_err-log_cleaned.result c.from_residual-in_err-log_cleaned.ensures.1 in
     let e = c.in_ok-held.ensures in
     let l = c.in_err-log_cleaned.ensures in
     let d = g.D.Disk in
@@ -104,8 +106,8 @@ returns-clause-swept g c =
     c.requires.sweeping c.hold_next.new.frames c.hold_next.new.pass h read.cleaned e.holding e.seen x.cleaned in
     swept_cleaned g.D.Disk c.placing_keeps.ensures.history c.args.frames.now c.hold_next.new.frames c.args.pass.now
     c.hold_next.new.pass c.requires.right c.requires.pass c.requires.none reads dead m c.requires.sweeping
-    c.log_cleaned.new.frames c.log_cleaned.new.pass c.vacuum_keeps.ensures h tt read.cleaned c.next_tree.new.self removal
-    (l.cleaned dead removal) l.none_held
+    c.log_cleaned.new.frames c.log_cleaned.new.pass c.vacuum_keeps.ensures h tt read.cleaned c.next_tree.new.self
+    removal (l.cleaned dead removal) l.none_held
     (fine_then g.D.Disk c.args.frames.now c.hold_next.new.frames c.log_cleaned.new.frames e.fine l.fine)
     (leaf_there dead m c.args.page h.page c.requires.stage e.number)
     (leaf_to c.leaves_stand.ensures c.entries_stand.ensures dead m c.args.page c.requires.stage h e.number read x

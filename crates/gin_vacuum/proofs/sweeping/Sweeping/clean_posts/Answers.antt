@@ -1,11 +1,10 @@
-use Rattle.std.proofs.Common.{◌≡◌, [], ◌∷◌, refl, sym, ap, subst, ◌∙◌, Err}
+use Rattle.std.proofs.Common.{[], refl, sym, ap, subst, ◌∙◌, Err}
 use Rattle.std.specs.Prelude.{Option, IfSome, IfNone}
 use Rattle.std.proofs.lemmas.Result.{err_from_is_err_and}
 use Rattle.page_types.specs.declared.page.Page.{Page}
 use Rattle.page_types.specs.Pages.{IsPage}
 use Rattle.posting_tree.specs.Adding.{IsPostLeaf}
 use Rattle.buffer_frames.specs.Frames.{Lies}
-use Rattle.gin_place.specs.declared.error.PlaceError.{PlaceError}
 use Rattle.gin_place.proofs.Carrying.{reads_in_turn}
 use Rattle.gin_place.proofs.Faults.{calm_fine, fine_then, told_then}
 use Rattle.gin_vacuum.specs.Inner.Reading.{IsReadPosts}
@@ -68,7 +67,8 @@ log_cleaned-requires g c =
       removal = (
         c.args.dead.now,
         removal_held g.D.Disk c.placing_keeps.ensures.history c.args.frames.now c.hold_next.new.frames c.args.pass.now
-            c.hold_next.new.pass c.requires.right c.requires.pass c.requires.none e.reads c.args.dead.now c.args.self.now
+            c.hold_next.new.pass c.requires.right c.requires.pass c.requires.none e.reads c.args.dead.now
+            c.args.self.now
             c.requires.sweeping c.hold_next.new.frames c.hold_next.new.pass c.in_ok-held.held c.in-Ok-Some.read.cleaned
             e.holding e.seen x.cleaned,
       );
@@ -76,7 +76,8 @@ log_cleaned-requires g c =
 
 pub returns-in_err-log_cleaned-clause-swept : goal.returns-in_err-log_cleaned-clause-swept
 returns-in_err-log_cleaned-clause-swept g c =
-    let p = err_from_is_err_and c.from_residual-in_err-log_cleaned.result c.from_residual-in_err-log_cleaned.ensures.1 in
+    let p =
+    err_from_is_err_and c.from_residual-in_err-log_cleaned.result c.from_residual-in_err-log_cleaned.ensures.1 in
     let e = c.in_ok-held.ensures in
     let l = c.in_err-log_cleaned.ensures in
     let d = g.D.Disk in
@@ -113,8 +114,8 @@ returns-clause-swept g c =
     post_there P c.args.dead.now m c.args.root c.args.before c.args.page h.page c.requires.stage e.number at)
     (λ S P some legal shown at then.
     gone_next c.args.dead.now m c.args.root c.args.before c.args.page e.left.0 c.in_ok-held.left c.requires.stage h
-    e.number read x S P some legal shown c.leaves_stand.ensures c.entries_stand.ensures e.left.2 at then c.go_on.new.self
-    c.go_on.ensures)
+    e.number read x S P some legal shown c.leaves_stand.ensures c.entries_stand.ensures e.left.2 at then
+    c.go_on.new.self c.go_on.ensures)
     (gone_high c.args.dead.now m c.args.root c.args.before c.args.page e.left.0 c.in_ok-held.left c.requires.stage h
     e.number read x (subst IsPage c.page.ensures.value c.page.ensures.is_page) c.go_on.new.self c.go_on.ensures)
 

@@ -1,17 +1,14 @@
-use Rattle.std.proofs.Common.{◌≡◌, [], ◌∷◌, refl, sym, ap, subst, ◌∙◌, Err, Some}
+use Rattle.std.proofs.Common.{◌≡◌, [], refl, sym, ap, subst, Err, Some}
 use Rattle.std.proofs.lemmas.Result.{err_from_is_err_and}
 use Rattle.page_types.specs.declared.page.Page.{Page}
-use Rattle.core_state.specs.Log.{Pages}
 use Rattle.core_state.specs.States.{StateTells}
 use Rattle.entry_tree.specs.Adding.{IsEntryLeaf}
 use Rattle.entry_tree.specs.Reading.{first_child_in}
-use Rattle.page_types.specs.Pages.{IsPage}
 use Rattle.buffer_frames.specs.Frames.{Lies}
 use Rattle.gin_place.proofs.Carrying.{reads_in_turn}
 use Rattle.gin_place.proofs.Faults.{calm_fine, fine_then}
 use Rattle.gin_vacuum.specs.Inner.Reading.{IsBelow}
 use Rattle.gin_vacuum.specs.Sweeping.{IsAt}
-use Rattle.gin_vacuum.specs.declared.sweeping.Below.{Below}
 use Rattle.gin_vacuum.specs.declared.sweeping.Stage.TheVariants as stage
 use Rattle.gin_vacuum.proofs.DownSteps.{at_leaf, at_child}
 use Rattle.gin_vacuum.proofs.GoneDown.{gone_on}
@@ -69,7 +66,8 @@ returns-in_err-held-clause-swept g c = λ dead sw.
     let p = err_from_is_err_and c.from_residual.result c.from_residual.ensures.1 in
     let e = c.in_err-held.ensures in
     not_held g.D.Disk c.placing_keeps.ensures.history c.ways_lead.ensures c.args.frames.now c.hold_next.new.frames
-    c.args.pass.now c.hold_next.new.pass c.requires.right c.requires.pass c.requires.none e.reads dead c.args.self.now sw
+    c.args.pass.now c.hold_next.new.pass c.requires.right c.requires.pass c.requires.none e.reads dead c.args.self.now
+    sw
     c.args.page (stage.Down c.args.page) c.requires.stage tt refl c.args.self.now.left refl c.from_residual.result p.0
     c.in_err-held.field-0.0 p.1 p.2 e.still e.cause (λ n is. e.bad n (ap Err is)) e.fault
 

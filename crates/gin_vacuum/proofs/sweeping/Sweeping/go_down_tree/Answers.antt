@@ -1,7 +1,6 @@
-use Rattle.std.proofs.Common.{◌≡◌, [], ◌∷◌, refl, sym, ap, subst, ◌∙◌, Some, Err, arith}
+use Rattle.std.proofs.Common.{◌≡◌, [], refl, sym, ap, subst, Some, Err, arith}
 use Rattle.std.proofs.lemmas.Result.{err_from_is_err_and}
 use Rattle.page_types.specs.declared.page.Page.{Page}
-use Rattle.core_state.specs.Log.{Pages}
 use Rattle.core_state.specs.States.{StateTells}
 use Rattle.posting_tree.specs.Adding.{IsPostLeaf}
 use Rattle.posting_tree.specs.Reading.{first_child_in}
@@ -32,8 +31,8 @@ returns-in-Leaf-clause-swept g c = λ dead sw.
     (calm_fine g.D.Disk c.hold_next.new.frames c.release.new.frames c.release.ensures.calm))
     (λ S P. (P h.page ≡ h.content) × StateTells S c.hold_next.new.frames.journal.state)
     (λ S P some legal shown at x.
-    at_tree_leaf S P some legal shown c.leaves_stand.ensures c.ways_lead.ensures c.hold_next.new.frames.journal.state x.1
-    e.left.0 c.in_ok-held.left e.left.1 dead c.args.self.now c.args.page h.content
+    at_tree_leaf S P some legal shown c.leaves_stand.ensures c.ways_lead.ensures c.hold_next.new.frames.journal.state
+    x.1 e.left.0 c.in_ok-held.left e.left.1 dead c.args.self.now c.args.page h.content
     (subst (λ n. P n ≡ h.content) e.number x.0) c.args.root e.left.2
     (subst (IsAt P dead c.args.self.now) c.requires.stage at)
     (subst (λ (d : Page). IsPostLeaf d.body) c.page.ensures.value
@@ -53,8 +52,8 @@ returns-in-Child-clause-swept g c = λ dead sw.
     (calm_fine g.D.Disk c.hold_next.new.frames c.release.new.frames c.release.ensures.calm))
     (λ S P. (P h.page ≡ h.content) × StateTells S c.hold_next.new.frames.journal.state)
     (λ S P some legal shown at x.
-    at_tree_child S P some legal shown c.leaves_stand.ensures c.ways_lead.ensures c.hold_next.new.frames.journal.state x.1
-    e.left.0 c.in_ok-held.left e.left.1 dead c.args.self.now c.args.page h.content
+    at_tree_child S P some legal shown c.leaves_stand.ensures c.ways_lead.ensures c.hold_next.new.frames.journal.state
+    x.1 e.left.0 c.in_ok-held.left e.left.1 dead c.args.self.now c.args.page h.content
     (subst (λ n. P n ≡ h.content) e.number x.0) c.args.root e.left.2
     (subst (IsAt P dead c.args.self.now) c.requires.stage at) c.in-Child.page
     (subst (λ (d : Page). first_child_in d.body ≡ Some c.in-Child.page) c.page.ensures.value

@@ -1,4 +1,4 @@
-use Rattle.std.proofs.Common.{◌≡◌, ◌∙◌, [], ◌∷◌, sym, ap, subst, Err}
+use Rattle.std.proofs.Common.{◌∙◌, [], sym, ap, subst, Err}
 use Rattle.std.proofs.lemmas.Result.{err_from_is_err_and}
 use Rattle.buffer_frames.specs.Passes.{Seen}
 use Rattle.gin_place.proofs.Faults.{calm_fine}
@@ -41,7 +41,8 @@ returns-in_ok-delete_leaf-in-Ok-Some-clause-swept g c = λ dead sw.
     let e = c.in_ok-delete_leaf-in-Ok-Some.ensures in
     let o = c.in-Ok-Some in
     is_deleted g.D.Disk c.placing_keeps.ensures.history c.args.frames.now c.args.pass.now c.requires.pass
-    c.requires.right c.args.parent c.requires.holding dead c.args.self.now sw c.args.empty t.0 t.1 t.2 c.delete_leaf.new.frames
+    c.requires.right c.args.parent c.requires.holding dead c.args.self.now sw c.args.empty t.0 t.1 t.2
+    c.delete_leaf.new.frames
     c.delete_leaf.new.pass c.delete_leaf.ensures.none_held c.vacuum_keeps.ensures c.in-Ok-Some.without
     (is_without c.args.empty.page c.page.result.now c.args.parent.content o.without o.field-0 o.field-0-is
     o.ensures.unlinked o.ensures.same o.ensures.is_page c.page.ensures.is_page c.page.ensures.value) e.logged
@@ -71,7 +72,8 @@ pub returns-in-Ok-None-clause-swept : goal.returns-in-Ok-None-clause-swept
 returns-in-Ok-None-clause-swept g c = λ dead sw.
     let t = c.requires.stage in
     stays_last g.D.Disk c.placing_keeps.ensures.history c.args.frames.now c.args.pass.now c.requires.pass
-    c.requires.right c.args.parent c.requires.holding dead c.args.self.now sw c.args.empty t.0 t.1 t.2 c.release.new.frames
+    c.requires.right c.args.parent c.requires.holding dead c.args.self.now sw c.args.empty t.0 t.1 t.2
+    c.release.new.frames
     c.release.new.pass (sym (c.release.ensures.holding [] c.requires.holding).all) c.leaves_stand.ensures
     c.entries_stand.ensures c.go_past-in-Ok-None.new.self _ c.release.ensures.reads
     (calm_fine g.D.Disk c.args.frames.now c.release.new.frames c.release.ensures.calm) c.go_past-in-Ok-None.ensures
@@ -87,7 +89,8 @@ pub returns-in-Err-clause-swept : goal.returns-in-Err-clause-swept
 returns-in-Err-clause-swept g c = λ dead sw.
     let t = c.requires.stage in
     no_memory g.D.Disk c.placing_keeps.ensures.history c.args.frames.now c.args.pass.now c.requires.pass
-    c.requires.right c.args.parent c.requires.holding dead c.args.self.now sw c.args.empty t.0 t.1 t.2 c.release-in-Err.new.frames
+    c.requires.right c.args.parent c.requires.holding dead c.args.self.now sw c.args.empty t.0 t.1 t.2
+    c.release-in-Err.new.frames
     c.release-in-Err.new.pass (sym (c.release-in-Err.ensures.holding [] c.requires.holding).all)
     c.release-in-Err.ensures.reads
     (calm_fine g.D.Disk c.args.frames.now c.release-in-Err.new.frames c.release-in-Err.ensures.calm)

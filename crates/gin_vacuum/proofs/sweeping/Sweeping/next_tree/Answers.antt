@@ -1,7 +1,6 @@
 use Rattle.std.proofs.Common.{sym, ap, ◌∙◌, Some, arith}
 use Rattle.std.proofs.lemmas.Option.{slice_get-get_or}
 use Rattle.gin_vacuum.specs.Inner.Sweeping.{HasNextTree}
-use Rattle.gin_vacuum.proofs.Passing.{next_at}
 use Rattle.gin_vacuum.proofs.sweeping.Sweeping.next_tree.Goals as goal
 
 pub returns-then-self-len : goal.returns-then-self-len

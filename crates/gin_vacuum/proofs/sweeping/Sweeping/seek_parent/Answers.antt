@@ -1,4 +1,4 @@
-use Rattle.std.proofs.Common.{◌≡◌, ◌<◌, ◌∙◌, ℕ, [], ◌∷◌, sym, ap, subst, Err, arith}
+use Rattle.std.proofs.Common.{◌≡◌, ◌∙◌, [], sym, ap, subst, Err, arith}
 use Rattle.std.proofs.lemmas.Result.{err_from_is_err_and}
 use Rattle.std.specs.Prelude.{Some}
 use Rattle.page_types.specs.declared.page.Page.{Page}
@@ -96,8 +96,8 @@ leave_or_delete-requires-clause-sweeping g c =
     let sw = c.requires.sweeping in (
       sw.0,
       swept_at g.D.Disk c.placing_keeps.ensures.history c.args.frames.now c.hold_next.new.frames c.args.pass.now
-          c.hold_next.new.pass c.requires.right c.requires.pass c.requires.none c.hold_next.ensures.reads sw.0 c.args.self.now
-          sw.1,
+          c.hold_next.new.pass c.requires.right c.requires.pass c.requires.none c.hold_next.ensures.reads sw.0
+          c.args.self.now sw.1,
     )
 
 pub returns-clause-swept : goal.returns-clause-swept

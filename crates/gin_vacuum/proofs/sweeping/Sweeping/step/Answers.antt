@@ -1,4 +1,4 @@
-use Rattle.std.proofs.Common.{◌≡◌, [], refl, sym, ap, subst, ◌∙◌, Ok, Err, Bool}
+use Rattle.std.proofs.Common.{sym, ap, subst, ◌∙◌, Ok, Err, Bool}
 use Rattle.buffer_frames.specs.Frames.{FramesValue}
 use Rattle.buffer_frames.specs.declared.pass.Pass.{Pass}
 use Rattle.gin_vacuum.specs.declared.sweeping.Sweeping.{Sweeping}
@@ -66,20 +66,25 @@ returns-clause-swept g c =
           w.go_down.new.self c.match-self.self w.go_down.result w.in_ok-go_down-in-Down.field-0 c.ne.result
           w.in_ok-go_down-in-Down.was w.frames-is w.pass-is w.self-is (w.go_down.ensures.swept dead sw)
       | in-Leaf+in_ok-clean_leaf-in-Leaf w ↦
-          swept_arm g.D.Disk f w.clean_leaf.new.frames c.match-self.frames p w.clean_leaf.new.pass c.match-self.pass dead m
+          swept_arm g.D.Disk f w.clean_leaf.new.frames c.match-self.frames p w.clean_leaf.new.pass c.match-self.pass
+          dead m
           w.clean_leaf.new.self c.match-self.self w.clean_leaf.result w.in_ok-clean_leaf-in-Leaf.field-0 c.ne.result
           w.in_ok-clean_leaf-in-Leaf.was w.frames-is w.pass-is w.self-is w.clean_leaf.ensures.swept
       | in-TreeDown+in_ok-go_down_tree-in-TreeDown w ↦
-          swept_arm g.D.Disk f w.go_down_tree.new.frames c.match-self.frames p w.go_down_tree.new.pass c.match-self.pass dead m
-          w.go_down_tree.new.self c.match-self.self w.go_down_tree.result w.in_ok-go_down_tree-in-TreeDown.field-0 c.ne.result
+          swept_arm g.D.Disk f w.go_down_tree.new.frames c.match-self.frames p w.go_down_tree.new.pass c.match-self.pass
+          dead m
+          w.go_down_tree.new.self c.match-self.self w.go_down_tree.result w.in_ok-go_down_tree-in-TreeDown.field-0
+          c.ne.result
           w.in_ok-go_down_tree-in-TreeDown.was w.frames-is w.pass-is w.self-is (w.go_down_tree.ensures.swept dead sw)
       | in-Posts+in_ok-clean_posts-in-Posts w ↦
-          swept_arm g.D.Disk f w.clean_posts.new.frames c.match-self.frames p w.clean_posts.new.pass c.match-self.pass dead m
+          swept_arm g.D.Disk f w.clean_posts.new.frames c.match-self.frames p w.clean_posts.new.pass c.match-self.pass
+          dead m
           w.clean_posts.new.self c.match-self.self w.clean_posts.result w.in_ok-clean_posts-in-Posts.field-0 c.ne.result
           w.in_ok-clean_posts-in-Posts.was w.frames-is w.pass-is w.self-is w.clean_posts.ensures.swept
       | in-Parent+in_ok-seek_parent-in-Parent w ↦
-          swept_arm g.D.Disk f w.seek_parent.new.frames c.match-self.frames p w.seek_parent.new.pass c.match-self.pass dead m
-          w.seek_parent.new.self c.match-self.self w.seek_parent.result w.in_ok-seek_parent-in-Parent.field-0 c.ne.result
+          swept_arm g.D.Disk f w.seek_parent.new.frames c.match-self.frames p w.seek_parent.new.pass c.match-self.pass
+          dead m w.seek_parent.new.self c.match-self.self w.seek_parent.result w.in_ok-seek_parent-in-Parent.field-0
+          c.ne.result
           w.in_ok-seek_parent-in-Parent.was w.frames-is w.pass-is w.self-is (w.seek_parent.ensures.swept dead sw)
       | in-Done w ↦
           subst (λ (h : FramesValue _). HasSwept {T = Bool} g.D.Disk f p h c.match-self.pass dead m c.match-self.self
