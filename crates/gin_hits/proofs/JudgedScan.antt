@@ -100,8 +100,8 @@ module _ {Q : Type 0} (M : Meaning Q) (q : Q) (w : Walk) (pending main : Hits) (
 
   -- each item that may be kept was read
   pub may_was_read : (all : Bool) (i : ℕ) → MayBeKept all pending main i → WasRead w i
-  may_was_read true i (inl m) = inl ((told.pending_told.any.just i).0 m)
-  may_was_read true i (inr m) = inr ((told.main_told.any.just i).0 m)
+  may_was_read true i (inl m) = inl ((told.pending_told.any i).0 m)
+  may_was_read true i (inr m) = inr ((told.main_told.any i).0 m)
   may_was_read false i (inl m) =
       let f = key_of (pending_side w) pending told.pending_told i m in inl (has_is_met w i f.0 f.1)
   may_was_read false i (inr m) =
@@ -109,11 +109,11 @@ module _ {Q : Type 0} (M : Meaning Q) (q : Q) (w : Walk) (pending main : Hits) (
 
   -- each that is kept may be
   pub kept_may : JudgeIsSound M → (all : Bool) → M.all q ≡ all → (i : ℕ) → IsKept M q w i → MayBeKept all pending main i
-  kept_may S true e i (IsKept.by_pending m j) = inl ((told.pending_told.any.just i).1 m)
+  kept_may S true e i (IsKept.by_pending m j) = inl ((told.pending_told.any i).1 m)
   kept_may S true e i (IsKept.by_main m j) =
       elim (or_either (is_exception w i) (not (met w i) && main_read w i) m) [
-        | inl f ↦ inl ((told.pending_told.any.just i).1 (exception_met i w.pending f))
-        | inr f ↦ inr ((told.main_told.any.just i).1 (and_true (not (met w i)) (main_read w i) f).1)
+        | inl f ↦ inl ((told.pending_told.any i).1 (exception_met i w.pending f))
+        | inr f ↦ inr ((told.main_told.any i).1 (and_true (not (met w i)) (main_read w i) f).1)
       ]
   kept_may S false e i (IsKept.by_pending m j) =
       let f = some_has M S q (pending_has w i) e j in

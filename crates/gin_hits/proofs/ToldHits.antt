@@ -40,13 +40,10 @@ module _ (asked : List Asked) (side : Side) (any : List ℕ) (list : Asked → L
       → AreInOrder new → length new.by_key.items ≡ length old.by_key.items → TellOf asked side new
   side_told old new any_items by_key same order count = record {
     count = count ∙ sym (lists_length old) ∙ ap length by_key ∙ length-map asked list;
-    any = record {
-      in_order = order.any;
-      just = λ i. then_too (same.any i)
-          (subst (λ (is : List ℕ). In i is ↔ IsTrue (side.met i)) (sym any_items) (any_is i));
-    };
+    any = λ i. then_too (same.any i)
+        (subst (λ (is : List ℕ). In i is ↔ IsTrue (side.met i)) (sym any_items) (any_is i));
     by_key = λ k a items e f. record {
-      in_order = all_get (λ (is : List ℕ). AllPairs (λ (i j : ℕ). i ≤ j) is) (lists_of new) k items order.by_key f;
+      in_order = all_get (λ (is : List ℕ). AllPairs (λ (i j : ℕ). i ≤ j) is) (lists_of new) k items order f;
       just = λ i. then_too (same.by_key k (list a) items (lists_at old by_key k a e) f i) (list_is i a);
     };
   }

@@ -43,10 +43,9 @@ pub record IsListOf (test : ℕ → Bool) (items : List ℕ) : Type 0 where
   pub in_order : AllPairs (λ (i j : ℕ). i ≤ j) items
   pub just : (i : ℕ) → In i items ↔ IsTrue (test i)
 
--- each list is in order
-pub record AreInOrder (h : Hits) : Type 0 where
-  pub any : AllPairs (λ (i j : ℕ). i ≤ j) h.any.items
-  pub by_key : All (λ (items : List ℕ). AllPairs (λ (i j : ℕ). i ≤ j) items) (lists_of h)
+-- the list of each key is in order
+abbrev pub AreInOrder : Hits → Type 0
+AreInOrder h = All (λ (items : List ℕ). AllPairs (λ (i j : ℕ). i ≤ j) items) (lists_of h)
 
 -- the same items, list by list
 pub record HaveSame (old new : Hits) : Type 0 where
@@ -54,10 +53,10 @@ pub record HaveSame (old new : Hits) : Type 0 where
   pub by_key : (k : ℕ) (xs ys : List ℕ) → slice_get (lists_of old) k ≡ Some xs
       → slice_get (lists_of new) k ≡ Some ys → (i : ℕ) → In i ys ↔ In i xs
 
--- the lists have just what was read on the side
+-- the lists have just what was read on the side, those of keys in order
 pub record TellOf (asked : List Asked) (side : Side) (h : Hits) : Type 0 where
   pub count : length h.by_key.items ≡ length asked
-  pub any : IsListOf side.met h.any.items
+  pub any : (i : ℕ) → In i h.any.items ↔ IsTrue (side.met i)
   pub by_key : (k : ℕ) (a : Asked) (items : List ℕ) → slice_get asked k ≡ Some a
       → slice_get (lists_of h) k ≡ Some items → IsListOf (λ (i : ℕ). side.has i a) items
 

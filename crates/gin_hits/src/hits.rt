@@ -1,5 +1,5 @@
 // The items that were read on one side of the index.
-ghost use Rattle.std.specs.Prelude.{◌≡◌, ◌≤◌, ◌↔◌, [], ◌∷◌, ◌++◌, List, IsTrue, length, map, replicate, IfOk};
+ghost use Rattle.std.specs.Prelude.{◌≡◌, ◌≤◌, ◌↔◌, ℕ, [], ◌∷◌, ◌++◌, List, IsTrue, length, map, replicate, IfOk};
 ghost use Rattle.std.specs.Prelude.{OnOk};
 ghost use Rattle.std.specs.List.{All, AllPairs};
 ghost use Rattle.page_types.specs.Items.{items_of, IsItemList};
@@ -46,6 +46,16 @@ fn add_list(items: &mut Vec<u32>, bytes: &[u8]) -> Result<(), AllocError>
         items.push(item)?;
     }
     Ok(())
+}
+
+/// Puts items in order, or leaves them as they are.
+fn put_if(alloc: Global, items: &mut Vec<u32>, all: bool)
+    ensures in_order { IsTrue all → AllPairs (λ i j. i ≤ j) items.new.items }
+    ensures same { (i : ℕ) → In i items.new.items ↔ In i items.old.items }
+{
+    if all {
+        put_in_order(alloc, items);
+    }
 }
 
 impl Hits {
@@ -140,13 +150,14 @@ impl Hits {
         Ok(())
     }
 
-    /// Each list is in order from now on.
-    pub fn put_in_order(&mut self, alloc: Global)
+    /// The list of each key is in order from now on, and where `all` is set that of all items too.
+    pub fn put_in_order(&mut self, alloc: Global, all: bool)
         ensures in_order { AreInOrder self.new }
+        ensures any { IsTrue all → AllPairs (λ i j. i ≤ j) self.new.any.items }
         ensures same { HaveSame self.old self.new }
         ensures lists { length self.new.by_key.items ≡ length self.old.by_key.items }
     {
-        put_in_order(alloc, &mut self.any);
+        put_if(alloc, &mut self.any, all);
         for items in self.by_key.iter_mut() {
             merge_runs(items);
         }

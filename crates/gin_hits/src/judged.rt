@@ -196,6 +196,7 @@ fn judge_item<Q, W: Meaning<Q>, C: CompareKeys, J: Judge<Q, W>>(
         × AreInOrder pending.now }
     requires main { (length main.now.by_key.items ≡ length judging.old.values.items)
         × AreInOrder main.now }
+    requires any { AllPairs (λ i j. i ≤ j) pending.now.any.items }
     ensures serves { J.serves work.new query.now }
     ensures count { length judging.new.values.items ≡ length judging.old.values.items }
     ensures verdict { (w : Walk)
@@ -304,6 +305,7 @@ fn add_kept<Q, W: Meaning<Q>, C: CompareKeys, J: Judge<Q, W>>(
         × AreInOrder pending.now }
     requires main { (length main.now.by_key.items ≡ length judging.old.values.items)
         × AreInOrder main.now }
+    requires any { AllPairs (λ i j. i ≤ j) pending.now.any.items }
     ensures serves { J.serves work.new query.now }
     ensures kept { OnOk result ((w : Walk)
         → TellOfWalk (W.asked query.now) w pending.now main.now first_item
@@ -339,6 +341,7 @@ pub fn judge_met<Q, W: Meaning<Q>, C: CompareKeys, J: Judge<Q, W>>(
     requires pending { (length pending.now.by_key.items ≡ length (W.asked query.now))
         × AreInOrder pending.now }
     requires main { (length main.now.by_key.items ≡ length (W.asked query.now)) × AreInOrder main.now }
+    requires any { AllPairs (λ i j. i ≤ j) pending.now.any.items }
     ensures serves { J.serves work.new query.now }
     ensures judged { OnOk result (AreJudged (meaning W.asked W.all W.satisfies W.judged) query.now all
         pending.now main.now first_item kept.old.items kept.new.items) }

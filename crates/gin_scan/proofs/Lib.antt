@@ -53,3 +53,4 @@ mod PostingCauses
 mod PostingCounted
 mod PostingCalls
 mod PostingNoted
+mod OwnLexemes

@@ -1,18 +1,23 @@
 // Whether a vector satisfies a query, by the work of its judge.
-ghost use Rattle.std.specs.Prelude.{◌↔◌, IsTrue};
+ghost use Rattle.std.specs.Prelude.{◌≡◌};
+ghost use Rattle.ts_match.specs.Meaning.{Holds};
+ghost use Rattle.ts_match.specs.Plan.{plan_of};
+ghost use Rattle.gin_scan.specs.Inner.Heads.{TellsOf};
 
+use crate::lexemes::judge_own;
 use gin_opclass::{Judge, Meaning};
+use ts_base::{Tri, encoding_tells_vector};
 use ts_match::{MatchWork, TextJudge, matches_encoded};
 use ts_query::TsQuery;
-use ts_vector::VectorBytes;
+use ts_vector::{VectorBytes, bad_bytes_are_no_encoding};
 
 /// Whether a vector satisfies a query whose meaning W names, by the work that a judge of such queries
 /// uses.
 pub trait Check<Q, W: Meaning<Q>, J: Judge<Q, W>> {
-    /// Whether the vector with this encoding satisfies the query. It takes no memory.
-    fn check(&self, query: &Q, work: &mut W, vector: &VectorBytes<'_>) -> bool
+    /// Whether the vector that these bytes encode satisfies the query. It takes no memory.
+    fn check(&self, query: &Q, work: &mut W, bytes: &[u8]) -> bool
         requires serves { J.serves work.old query.now }
-        ensures answer { IsTrue result ↔ W.satisfies query.now vector.now }
+        ensures tells { TellsOf (W.satisfies query.now) bytes.now result }
         ensures serves { J.serves work.new query.now };
 }
 
@@ -20,8 +25,26 @@ pub trait Check<Q, W: Meaning<Q>, J: Judge<Q, W>> {
 #[derive(Clone, Copy, Debug, Default)]
 pub struct TextCheck;
 
+/// Whether these bytes encode a vector that satisfies the query. Bytes that encode none do not.
+fn matches_bytes(query: &TsQuery, work: &mut MatchWork, bytes: &[u8]) -> bool
+    requires { work.old ≡ plan_of query.now }
+    ensures tells { TellsOf (Holds query.now) bytes.now result }
+    ensures work { work.new ≡ work.old }
+{
+    encoding_tells_vector();
+    bad_bytes_are_no_encoding();
+    match VectorBytes::new(bytes) {
+        Ok(vector) => matches_encoded(query, work, &vector),
+        Err(_) => false,
+    }
+}
+
 impl Check<TsQuery, MatchWork, TextJudge> for TextCheck {
-    fn check(&self, query: &TsQuery, work: &mut MatchWork, vector: &VectorBytes<'_>) -> bool {
-        matches_encoded(query, work, vector)
+    fn check(&self, query: &TsQuery, work: &mut MatchWork, bytes: &[u8]) -> bool {
+        match judge_own(query, work, bytes) {
+            Tri::True => true,
+            Tri::False => false,
+            Tri::Maybe => matches_bytes(query, work, bytes),
+        }
     }
 }

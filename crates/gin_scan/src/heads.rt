@@ -11,7 +11,7 @@ ghost use Rattle.gin_scan.specs.Causes.{HasSlots};
 
 use crate::asks::{SeenHeads, page_of, slot_of};
 use crate::check::Check;
-use crate::scan_core::{ScanCore, hold_page, look_on, one_more, satisfies};
+use crate::scan_core::{ScanCore, hold_page, look_on, one_more};
 use crate::stage::{LongVector, Stage};
 use buffer_frames::{FrameError, Frames, Pass};
 use disk_trait::Disk;
@@ -89,7 +89,7 @@ impl ScanCore {
             })?;
             return Ok(());
         }
-        if !satisfies(check, query, work, found.vector) {
+        if !check.check(query, work, found.vector) {
             return Ok(());
         }
         self.names.push(name)?;

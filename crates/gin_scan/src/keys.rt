@@ -290,8 +290,8 @@ impl ScanCore {
     {
         let _ = frames;
         let _ = pass;
-        self.pending.put_in_order(alloc);
-        self.main.put_in_order(alloc);
+        self.pending.put_in_order(alloc, true);
+        self.main.put_in_order(alloc, self.keys.all);
         judge_met(
             alloc,
             class,

@@ -12,6 +12,7 @@ mod found;
 mod heads;
 mod keys;
 mod laws;
+mod lexemes;
 mod parts;
 mod pending;
 mod postings;

@@ -11,7 +11,7 @@ ghost use Rattle.gin_opclass.specs.Class.{meaning};
 ghost use Rattle.gin_scan.specs.Causes.{HasPart};
 
 use crate::check::Check;
-use crate::scan_core::{ScanCore, hold_page, one_more, satisfies};
+use crate::scan_core::{ScanCore, hold_page, one_more};
 use crate::stage::Stage;
 use buffer_frames::{FrameError, Frames, Pass};
 use disk_trait::Disk;
@@ -156,7 +156,7 @@ impl ScanCore {
         if self.bytes.len() != long.size as usize {
             return Ok(());
         }
-        if !satisfies(check, query, work, self.bytes.as_slice()) {
+        if !check.check(query, work, self.bytes.as_slice()) {
             return Ok(());
         }
         self.names.push(long.name)?;

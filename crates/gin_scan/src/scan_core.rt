@@ -10,7 +10,6 @@ ghost use Rattle.buffer_frames.specs.declared.frame_error.FrameError.TheVariants
 ghost use Rattle.gin_opclass.specs.Class.{meaning, JudgeIsSound};
 ghost use Rattle.gin_scan.specs.Calls.{AddsNothing, LieStill, KeepsWork, ReadsOn};
 ghost use Rattle.gin_scan.specs.Causes.{CannotRead};
-ghost use Rattle.gin_scan.specs.Inner.Heads.{TellsOf};
 ghost use Rattle.gin_scan.specs.Inner.Looks.{LooksOn};
 
 use crate::asks::Extent;
@@ -23,8 +22,6 @@ use gin_hits::{Hits, TreeRoot, in_order};
 use gin_opclass::{CompareKeys, Judge, Meaning, OpClass, QueryKeys};
 use page_types::{Name, PAGE_LIMIT};
 use std::alloc::Global;
-use ts_base::encoding_tells_vector;
-use ts_vector::{VectorBytes, bad_bytes_are_no_encoding};
 
 /// A scan for the keys of a query.
 #[derive(Debug, Drop)]
@@ -116,25 +113,6 @@ pub(crate) fn one_more(pages_read: u64) -> u64
     ensures { result ≡ holds_after pages_read }
 {
     pages_read.saturating_add(1)
-}
-
-/// Whether these bytes encode a vector that satisfies the query. Bytes that encode none do not.
-pub(crate) fn satisfies<Q, W: Meaning<Q>, J: Judge<Q, W>, M: Check<Q, W, J>>(
-    check: &M,
-    query: &Q,
-    work: &mut W,
-    bytes: &[u8],
-) -> bool
-    requires serves { J.serves work.old query.now }
-    ensures serves { J.serves work.new query.now }
-    ensures tells { TellsOf (W.satisfies query.now) bytes.now result }
-{
-    encoding_tells_vector();
-    bad_bytes_are_no_encoding();
-    match VectorBytes::new(bytes) {
-        Ok(vector) => check.check(query, work, &vector),
-        Err(_) => false,
-    }
 }
 
 impl ScanCore {

@@ -24,14 +24,14 @@ returns-then-has-clause-verdict g c = λ w told read.
     (told.first_told ∙ is_the_first i w.pending e)) in
     let there : In i c.args.pending.now.any.items =
     subst (In i) c.as_slice.ensures.value (c.has.ensures.0 c.if-has.true) in
-    verdict_of_met _ c.args.query.now w i c.judge_alone.result other ((told.pending_told.any.just i).0 there)
+    verdict_of_met _ c.args.query.now w i c.judge_alone.result other ((told.pending_told.any i).0 there)
     (c.judge_alone.ensures.verdict (pending_side w) told.pending_told)
 
 pub returns-clause-verdict : goal.returns-clause-verdict
 returns-clause-verdict g c = λ w told read.
     let i = c.args.item in
     let unmet : met w i ≡ false = false_of (met w i)
-    (λ e. let there = subst (In i) (sym c.as_slice.ensures.value) ((told.pending_told.any.just i).1 e) in
+    (λ e. let there = subst (In i) (sym c.as_slice.ensures.value) ((told.pending_told.any i).1 e) in
     let z = sym (c.has.ensures.1 there) ∙ c.if-has.false in let y : ⊥ = cc in y) in
     verdict_of_unmet _ c.args.query.now w i c.judge_alone-2.result unmet
     (elim read [ inl e ↦ absurd (let z = sym e ∙ unmet in let y : ⊥ = cc in y) | inr e ↦ e ])

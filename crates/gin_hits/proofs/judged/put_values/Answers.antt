@@ -14,7 +14,7 @@ value_of-value-requires c =
     let lt : k < length h.by_key.items
     = omega (arith, c.loop-k-test.true, c.len-k-end.ensures, c.requires.lists, c.args.values.now.ok.0) in
     subst (AllPairs (λ (i j : ℕ). i ≤ j)) (sym c.deref.ensures.value)
-    (all_get (λ (items : List ℕ). AllPairs (λ (i j : ℕ). i ≤ j) items) (lists_of h) k v.items c.requires.in_order.by_key
+    (all_get (λ (items : List ℕ). AllPairs (λ (i j : ℕ). i ≤ j) items) (lists_of h) k v.items c.requires.in_order
     (list_here h k v lt c.index.ensures))
 
 pub loop-k-preserved : goal.loop-k-preserved

@@ -23,9 +23,8 @@ returns-clause-in_order c =
     c.loop-items.items-index c.deref_mut-items-items.ensures.value c.loop-items.invariant in
     let short : length (lists_of c.args.self.now) ≡ length c.deref_mut-items-items.result.now
     = length-map c.args.self.now.by_key.items items_in ∙ sym (ap length c.deref_mut-items-items.ensures.value) in
-    are_in_order c.loop-items.items-index c.args.self.now _ first
+    are_in_order c.loop-items.items-index (lists_of c.args.self.now) _ first
     (omega (arith, c.loop-items-test.false, short))
-    c.put_in_order.ensures
 
 pub returns-clause-same : goal.returns-clause-same
 returns-clause-same c =
@@ -35,4 +34,4 @@ returns-clause-same c =
     = length-map c.args.self.now.by_key.items items_in ∙ sym (ap length c.deref_mut-items-items.ensures.value) in
     have_same c.loop-items.items-index c.args.self.now _ first
     (omega (arith, c.loop-items-test.false, short))
-    c.put_in_order.ensures
+    c.put_if.ensures.same

@@ -23,6 +23,9 @@ judge_met-requires-clause-pending g c = (
   c.put_in_order.ensures.in_order,
 )
 
+pub judge_met-requires-clause-any : goal.judge_met-requires-clause-any
+judge_met-requires-clause-any g c = c.put_in_order.ensures.any refl
+
 pub judge_met-requires-clause-main : goal.judge_met-requires-clause-main
 judge_met-requires-clause-main g c = (
   c.put_in_order-2.ensures.lists ∙ c.requires.may.scanning.is_scan.main

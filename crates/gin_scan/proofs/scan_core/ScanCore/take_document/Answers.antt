@@ -37,14 +37,14 @@ returns-then-found-gt-MOST_SHORT_BYTES-clause-taken g c =
       size = c.args.found.fields.bytes;
     } ∷ []) named) refl)
 
-pub returns-then-not-satisfies-clause-taken : goal.returns-then-not-satisfies-clause-taken
-returns-then-not-satisfies-clause-taken g c =
+pub returns-then-not-check-clause-taken : goal.returns-then-not-check-clause-taken
+returns-then-not-check-clause-taken g c =
     let P = g.W.Meaning.satisfies c.args.query.now in
     let h = head_shown c.args.found in
     let s = c.args.self.now in
     subst (λ (b : Bool). TakesDocument P c.args.item b h s s) (sym c.if-sure.false)
     (takes_none P c.args.item h s c.if-found-gt-MOST_SHORT_BYTES.false
-    (subst (TellsOf P h.vector) c.if-not-satisfies.true c.satisfies.ensures.tells))
+    (subst (TellsOf P h.vector) c.if-not-check.true c.check.ensures.tells))
 
 pub returns-clause-taken : goal.returns-clause-taken
 returns-clause-taken g c =
@@ -56,5 +56,5 @@ returns-clause-taken g c =
     subst (λ (b : Bool). TakesDocument P c.args.item b h s (record s { names = c.push-2.new.self }))
     (sym c.if-sure.false)
     (takes_name P c.args.item h s (record s { names = c.push-2.new.self }) c.if-found-gt-MOST_SHORT_BYTES.false
-    (subst (TellsOf P h.vector) c.if-not-satisfies.false c.satisfies.ensures.tells)
+    (subst (TellsOf P h.vector) c.if-not-check.false c.check.ensures.tells)
     (c.in_ok-push-3.ensures.items ∙ ap (λ (n : Name). s.names.items ++ n ∷ []) named) refl)

@@ -16,17 +16,17 @@ returns-then-len-long-clause-taken g c =
       added = refl;
     }
 
-pub returns-then-not-satisfies-clause-taken : goal.returns-then-not-satisfies-clause-taken
-returns-then-not-satisfies-clause-taken g c =
+pub returns-then-not-check-clause-taken : goal.returns-then-not-check-clause-taken
+returns-then-not-check-clause-taken g c =
     let P = g.W.Meaning.satisfies c.args.query.now in
     let s = c.args.self.now in
     let l = c.index-long.result.now in record {
       waits = l;
       is_there = got s.long.items c.args.at l c.requires.within c.index-long.ensures;
       answer = false;
-      told = λ same. subst (TellsOf P s.bytes.items) c.if-not-satisfies.true
-          (subst (λ (bytes : List ℕ). TellsOf P bytes c.satisfies.result) c.as_slice.ensures.value
-          c.satisfies.ensures.tells);
+      told = λ same. subst (TellsOf P s.bytes.items) c.if-not-check.true
+          (subst (λ (bytes : List ℕ). TellsOf P bytes c.check.result) c.as_slice.ensures.value
+          c.check.ensures.tells);
       other = λ off. refl;
       added = refl;
     }
@@ -40,9 +40,9 @@ returns-clause-taken g c =
       waits = l;
       is_there = got s.long.items c.args.at l c.requires.within c.index-long.ensures;
       answer = true;
-      told = λ same. subst (TellsOf P s.bytes.items) c.if-not-satisfies.false
-          (subst (λ (bytes : List ℕ). TellsOf P bytes c.satisfies.result) c.as_slice.ensures.value
-          c.satisfies.ensures.tells);
+      told = λ same. subst (TellsOf P s.bytes.items) c.if-not-check.false
+          (subst (λ (bytes : List ℕ). TellsOf P bytes c.check.result) c.as_slice.ensures.value
+          c.check.ensures.tells);
       other = λ off. absurd (off all);
       added = (c.in_ok-push.ensures.items, refl);
     }
