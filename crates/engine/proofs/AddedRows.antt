@@ -98,7 +98,7 @@ row_record s x name last keys step made =
     subst (λ (k : Step). IsRowOf x (doc_of name) (record_of s k)) (sym made.step_is) (record {
       xid = refl;
       kind_is = refl;
-      images = (made_sheets (front_of s q) q.after, refl, refl);
+      images = (q.after, refl, (made.is_page, tt), refl);
     })
 
 -- a page with rows has just those that are seen on it

@@ -1,5 +1,6 @@
 -- Why the work of a statement is refused, as the statement tells it.
-use Rattle.std.proofs.Common.{◌≡◌, ◌⊎◌, inl, inr, ℕ, List, [], ◌∷◌, ◌++◌, refl, sym, subst, ◌∙◌, append_assoc}
+use Rattle.std.proofs.Common.{◌≡◌, ◌⊎◌, inl, inr, ℕ, List, [], ◌∷◌, ◌++◌, refl, sym, subst, ◌∙◌}
+use Rattle.std.proofs.Common.{append_assoc}
 use Rattle.std.specs.Prelude.{Option, Some, None}
 use Rattle.std.specs.List.{All}
 use Rattle.std.proofs.lemmas.List.Elements.{All-head}
@@ -12,10 +13,10 @@ use Rattle.page_types.specs.declared.record.Kind.{Kind}
 use Rattle.page_types.specs.declared.record.Kind.TheVariants as kind
 use Rattle.core_state.proofs.PageLists.{in_back}
 use Rattle.engine.specs.Finding.{Name}
-use Rattle.engine.specs.Work.{Work, deleted_by, IsBeginOf, AreMarks, ArePlaces, IsNext, IsBegunWork}
+use Rattle.engine.specs.Work.{Work, deleted_by, keys_by, IsBeginOf, AreMarks, ArePlaces, IsNext, IsBegunWork}
 use Rattle.engine.specs.Going.{Goes, MetFault, MetNoFault}
 use Rattle.engine.specs.Causes.{IsListed, AreXidsSpent, SoFar, ShowsHead, IsInConflict, MayBeDeleted, AreThere}
-use Rattle.engine.specs.Causes.{IsBadPage, IsBadList}
+use Rattle.engine.specs.Causes.{IsBadPage, IsBadList, IsDue}
 use Rattle.engine.specs.Causes.{NeedsPage, IsStoreFull, HasNoRoomFor}
 use Rattle.engine.specs.Answers.{MayStart, Refuses, IsRefused, HasRefused}
 use Rattle.engine.specs.Db.{DbValue, fault_of, state_of, flushed_of, IsUp}
@@ -26,6 +27,7 @@ use Rattle.engine.specs.declared.transaction.Transaction.{Transaction}
 use Rattle.engine.specs.declared.error.DbError.{DbError}
 use Rattle.engine.specs.declared.error.DbError.TheVariants.{NoDocument, Conflict, StoreFull, LogFull, XidsSpent, Down}
 use Rattle.engine.specs.declared.error.DbError.TheVariants.{DiskFault, BadPage, OutOfMemory}
+use Rattle.engine.proofs.Due.{due_more}
 use Rattle.engine.proofs.Paths.{goes_on}
 use Rattle.engine.proofs.Works.{IsNamed, listed_named, begun_only, begun_marked, begun_placing}
 
@@ -85,7 +87,7 @@ some_one n m e = cc
 
 module _ {D : Type 0} (device : Disk D) (old new : DbValue D) (w : Work) where
   -- a refusal that leaves no doubt
-  pub refuse_with : (e : DbError) → Refuses device old new w e → IsRefused device old new w
+  pub refuse_with : (e : DbError) → Refuses device old new w e → IsRefused device old new w e
       → HasRefused device old new w e
   refuse_with (Down f) why is = (why, is)
   refuse_with NoDocument why is = (why, is)
@@ -182,11 +184,13 @@ module _ {D : Type 0} (device : Disk D) (old new : DbValue D) (w : Work) where
           may_start,
           inr (
             there_of may,
-            at_begin (λ (u : DbValue D) (x : ℕ) (rs : List Record). (q : Record) × IsNext w x rs q × HasNoRoomFor u q)
+            at_begin (λ (u : DbValue D) (x : ℕ) (rs : List Record). (q : Record) × IsNext w x rs q
+                × IsDue device old (keys_by w.inserts) rs q.kind × HasNoRoomFor u q)
                 why.2.1.0 (goes_on device why.1 why.2.1.1) (
                   r,
                   IsNext.works (B.first ∷ []) r
                       (begun_marked w t.xid B.first B.is_begin (r ∷ []) marks),
+                  subst (IsDue device old (keys_by w.inserts) (B.first ∷ [])) (sym (why.2.1.2.1).kind_is) tt,
                   why.2.1.2.2,
                 ),
           ),
@@ -226,6 +230,13 @@ module _ {D : Type 0} (device : Disk D) (old new : DbValue D) (w : Work) where
             why = tells p.store p.done p.next (IsNext.works (B.first ∷ (marks ++ p.done)) p.next next) p.why;
           }
 
+      -- what may come after the marks may come after all of these
+      due : (done : List Record) (k : Kind) → IsDue device mid (keys_of v) done k
+          → IsDue device old (keys_by w.inserts) (B.first ∷ (marks ++ done)) k
+      due done k is =
+          subst (λ (o : Option Vector). IsDue device old (keys_by o) (B.first ∷ (marks ++ done)) k) (sym ins)
+          (due_more device old mid (keys_of v) (B.first ∷ marks) done (goes_on device B.goes q) k is)
+
       refuses_put : (e : DbError) → IsUp mid → MayMark device s t w.deletes → (e ≡ DiskFault → MetFault device old new)
           → CannotStore device mid t.xid (vector_bytes v) (keys_of v) e → Refuses device old new w e
       refuses_put (Down f) up may met why = absurd (not_down (fault_of mid) f up why)
@@ -233,18 +244,22 @@ module _ {D : Type 0} (device : Disk D) (old new : DbValue D) (w : Work) where
         may_start,
         there_of may,
         at_put (λ (u : DbValue D) (x : ℕ) (rs : List Record). (r : Record) × (z : Vector) × IsNext w x rs r
-            × (w.inserts ≡ Some z) × NeedsPage u z x r.kind × IsStoreFull u)
-            (λ (u : DbValue D) (done : List Record) (r : Record).
-            NeedsPageAt device (vector_bytes v) t.xid u r.kind × IsStoreFull u)
-            (λ u done r next met. (r, v, next, ins, needs_page device u v t.xid r.kind met.0, met.1)) why,
+            × IsDue device old (keys_by w.inserts) rs r.kind × (w.inserts ≡ Some z) × NeedsPage u z x r.kind
+            × IsStoreFull u)
+            (λ (u : DbValue D) (done : List Record) (r : Record). IsDue device mid (keys_of v) done r.kind
+            × NeedsPageAt device (vector_bytes v) t.xid u r.kind × IsStoreFull u)
+            (λ u done r next met.
+            (r, v, next, due done r.kind met.0, ins, needs_page device u v t.xid r.kind met.1, met.2)) why,
       )
       refuses_put LogFull up may met why = (
         may_start,
         inr (
           there_of may,
-          at_put (λ (u : DbValue D) (x : ℕ) (rs : List Record). (r : Record) × IsNext w x rs r × HasNoRoomFor u r)
-              (λ (u : DbValue D) (done : List Record) (r : Record). HasNoRoomFor u r)
-              (λ u done r next met. (r, next, met)) why,
+          at_put (λ (u : DbValue D) (x : ℕ) (rs : List Record). (r : Record) × IsNext w x rs r
+              × IsDue device old (keys_by w.inserts) rs r.kind × HasNoRoomFor u r)
+              (λ (u : DbValue D) (done : List Record) (r : Record).
+              IsDue device mid (keys_of v) done r.kind × HasNoRoomFor u r)
+              (λ u done r next met. (r, next, due done r.kind met.0, met.1)) why,
         ),
       )
       refuses_put (BadPage p) up may met why = (

@@ -17,7 +17,7 @@ use Rattle.core_state.specs.Allowed.{Sheet}
 use Rattle.core_state.specs.Steps.{IsNewSheet}
 use Rattle.core_state.proofs.RunningOnes.{same_or_other}
 use Rattle.core_state.proofs.Showing.{shown_one}
-use Rattle.page_space.specs.Taking.{IsTaken}
+use Rattle.page_space.specs.Taking.{IsTaken, HasNoPage}
 use Rattle.page_space.proofs.NewPages.{taken_new}
 use Rattle.doc_heap.specs.HeapPages.{HasNoRoom}
 use Rattle.doc_heap.proofs.SlotSizes.{bytes_of, size_put}
@@ -38,7 +38,7 @@ use Rattle.buffer_frames.proofs.HomesLie.{lies_here}
 use Rattle.buffer_frames.proofs.PinsKept.{state_seen}
 use Rattle.engine.specs.Db.{DbValue, fault_of, state_of, IsUp}
 use Rattle.engine.specs.Places.{Lies, NoHeapPageHasRoom}
-use Rattle.engine.specs.Causes.{IsNone, IsHeap, IsNew, IsNewSought, IsNoPageAt}
+use Rattle.engine.specs.Causes.{IsNone, IsHeap, IsNew, IsNewSought, IsNoPageAt, IsStoreFull}
 use Rattle.engine.specs.Going.{TimeGoesOn, Goes, stays, MetNoFault, FaultIsTold}
 use Rattle.engine.specs.Inner.Parts.{KeepsWork, CarriesOwn, CannotHold}
 use Rattle.engine.specs.Inner.Refusals.{frame_refusal}
@@ -118,15 +118,23 @@ none_past (x ∷ xs) (suc n) (suc k) p none is = omega (arith, none_past xs n k 
 
 module _ {D : Type 0} where
   -- none of the pages has room once each was passed over
-  pub none_has_room : (a b : DbValue D) (h : Head) (n : ℕ) → LiesAsBefore a b → state_of b ≡ state_of a
-      → slice_get (heap_pages (state_of a)) n ≡ None → ((k : ℕ) → k < n → IsPassedOver a h k)
-      → NoHeapPageHasRoom b h
-  none_has_room a b h n before same none passed p c i lies =
-      let k = place_in (heap_pages (state_of a)) p (subst (λ s. In p (heap_pages s)) same i) in
+  pub none_has_room : (a : DbValue D) (h : Head) (n : ℕ) → slice_get (heap_pages (state_of a)) n ≡ None
+      → ((k : ℕ) → k < n → IsPassedOver a h k) → NoHeapPageHasRoom a h
+  none_has_room a h n none passed p i =
+      let k = place_in (heap_pages (state_of a)) p i in
       let over = passed k.0 (none_past (heap_pages (state_of a)) n k.0 p none k.1) in
       let page : over.page ≡ p = (let e : Some over.page ≡ Some p = sym over.at ∙ k.1 in cc) in
-      let was : Lies a p over.content = subst (λ (q : ℕ). Lies a q over.content) page over.lies in
-      subst (λ (d : Page). HasNoRoom d h) (lies_one a p over.content c was (before p c lies)) over.no_room
+      (over.content, subst (λ (q : ℕ). Lies a q over.content) page over.lies, over.no_room)
+
+  -- where no page may be taken, none might before steps that leave the state and the snapshots in use
+  full_before : (a b : DbValue D) → state_of b ≡ state_of a → b.frames.pins ≡ a.frames.pins → IsStoreFull b
+      → IsStoreFull a
+  full_before a b same pins full = (
+    full.0,
+    subst (λ (ps : List (Option Pin)). IsLeast ps (λ (p : Pin). p.length) (state_of a).records full.0) pins
+        (subst (λ (s : StateValue). IsLeast b.frames.pins (λ (p : Pin). p.length) s.records full.0) same full.1),
+    subst (λ (s : StateValue). HasNoPage s full.0) same full.2,
+  )
 
 -- ── what is said of an answer ──
 
@@ -494,7 +502,7 @@ module _ {D : Type 0} (device : Disk D) where
           let works = works_in_turn a b c p q r asked w in
           let past : slice_get (heap_pages (state_of a)) number ≡ None =
           subst (λ (s : StateValue). slice_get (heap_pages s) number ≡ None) asked.state.state (sym none) in
-          (c, works.goes, (none_has_room a c h number works.lying works.state.state past passed, cause))
+          (a, stays, (none_has_room a h number past passed, full_before a c works.state.state works.pins cause))
       chosen_by_new c r number (store.BadPage n) w none passed cause =
           (cause.0, goes_still device asked.goes cause.1, (cause.2.0, inr cause.2.1))
       chosen_by_new c r number store.DiskFault w none passed cause = tt

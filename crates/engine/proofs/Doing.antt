@@ -1,5 +1,5 @@
 -- What the work of a statement does, from what its parts do.
-use Rattle.std.proofs.Common.{◌≡◌, inr, ℕ, List, [], ◌∷◌, ◌++◌, refl, sym, ap, subst, ◌∙◌, append_assoc, arith}
+use Rattle.std.proofs.Common.{◌≡◌, inl, inr, ℕ, List, [], ◌∷◌, ◌++◌, refl, sym, ap, subst, ◌∙◌, append_assoc, arith}
 use Rattle.std.specs.Prelude.{Option, Some, None, Result, Ok, Err, OnOk, OnErr, IfOk, IfErr}
 use Rattle.std.proofs.lemmas.List.{append-nil}
 use Rattle.disk_trait.specs.declared.device.Disk.{Ghosts as Disk}
@@ -8,11 +8,13 @@ use Rattle.ts_base.specs.Encoding.{IsEncoding}
 use Rattle.ts_base.specs.Keys.{Key, keys_of}
 use Rattle.page_types.specs.declared.record.Record.{Record}
 use Rattle.core_state.specs.History.{Commit}
+use Rattle.core_state.specs.Log.{In}
+use Rattle.core_state.proofs.PageLists.{in_either}
 use Rattle.buffer_frames.specs.declared.pass.Pass.{Pass}
 use Rattle.engine.specs.Finding.{Name, document}
 use Rattle.engine.specs.Work.{storing, commit_of, IsMarkOf, AreStored, IsWork}
 use Rattle.engine.specs.Going.{Goes, stays, MetNoFault}
-use Rattle.engine.specs.Causes.{MayBeDeleted}
+use Rattle.engine.specs.Causes.{MayBeDeleted, IsDue, AreDue}
 use Rattle.engine.specs.Db.{DbValue}
 use Rattle.engine.specs.Inner.Parts.{KeepsWork, HasChanged, Later, CannotMark, no_changes, only_deleted}
 use Rattle.engine.specs.Inner.Parts.{with_inserted}
@@ -20,6 +22,7 @@ use Rattle.engine.specs.Inner.Indexing.{CannotStore}
 use Rattle.engine.specs.Inner.Doing.{HasDone, HasStopped, IsNotDone, removing, removal}
 use Rattle.engine.specs.declared.transaction.Transaction.{Transaction}
 use Rattle.engine.specs.declared.error.DbError.{DbError}
+use Rattle.engine.proofs.Due.{mark_due, due_more}
 use Rattle.engine.proofs.Paths.{goes_on}
 
 -- what a pass keeps
@@ -49,6 +52,7 @@ module _ {D : Type 0} (device : Disk D) (old new : DbValue D) (pass : Pass) (t :
       (record {
         records = [];
         are_work = record { marks = []; places = []; order = refl; are_marks = refl; are_places = refl };
+        due = λ r i. absurd i;
         goes = stays;
         there = λ n e. absurd (none_some n e);
         changed = changed;
@@ -68,6 +72,7 @@ module _ {D : Type 0} (device : Disk D) (old new : DbValue D) (pass : Pass) (t :
           are_marks = (goes.1, refl);
           are_places = refl;
         };
+        due = mark_due device old [] (goes.0 ∷ []) t.xid (Some n) (goes.0 ∷ []) (goes.1, refl);
         goes = goes.2;
         there = λ m e. (
           may.0,
@@ -121,12 +126,21 @@ module _ {D : Type 0} (device : Disk D) (old new : DbValue D) (pass : Pass) (t :
         → ((u : Vector) (c : Commit) → IsEncoding bytes u → keys ≡ keys_of u → c.inserted ≡ []
         → HasChanged device mid pass' t.xid c
         → IfOk r (λ n. HasChanged device new pass t.xid (with_inserted (document n u) c)))
-        → OnOk r ((rs : List Record) × AreStored bytes keys t.xid rs × Goes device mid new rs)
+        → OnOk r ((rs : List Record) × AreStored bytes keys t.xid rs × AreDue device mid keys rs
+        × Goes device mid new rs)
         → IfOk r (λ n. HasDone device old new pass t (storing o v) (commit_of (storing o v) n))
     placed (Ok n) changed goes = record {
       records = done.records ++ goes.0;
       are_work = works goes.0 (subst (λ (ks : List Key). AreStored bytes ks t.xid goes.0) of goes.1);
-      goes = goes_on device done.goes goes.2;
+      due = λ q i. elim (in_either q done.records goes.0 i) [
+        | inl j ↦
+            mark_due device old (keys_of v) (done.records ++ goes.0) t.xid o done.are_work.marks done.are_work.are_marks
+            q (subst (In q) marks_alone j)
+        | inr j ↦
+            due_more device old mid (keys_of v) done.records goes.0 done.goes q.kind
+            (subst (λ (ks : List Key). IsDue device mid ks goes.0 q.kind) of (goes.2 q j))
+      ];
+      goes = goes_on device done.goes goes.3;
       there = done.there;
       changed = changed v (removal o) encodes of refl done.changed;
     }

@@ -12,24 +12,31 @@ use Rattle.page_types.specs.Views.{free_page}
 use Rattle.page_types.specs.declared.page.Page.{Page}
 use Rattle.page_types.specs.declared.page.Name.{Name}
 use Rattle.page_types.specs.declared.record.Record.{Record}
+use Rattle.page_types.specs.declared.record.Kind.{Kind}
 use Rattle.page_types.specs.declared.record.Kind.TheVariants as kind
 use Rattle.core_state.specs.Allowed.{Sheet}
 use Rattle.core_state.specs.Documents.{Doc}
 use Rattle.core_state.specs.Log.{In}
 use Rattle.core_state.specs.Steps.{sheet}
+use Rattle.core_state.proofs.PageLists.{in_back}
+use Rattle.core_state.proofs.Showing.{free_is}
 use Rattle.buffer_frames.specs.Drawing.{images_of}
 use Rattle.pending_list.specs.Packing.{ArePacked}
-use Rattle.engine.specs.Causes.{IsStoreFull, HasNoRoomFor, IsNone, HasHeadIn, IsBadPage, IsBadList}
+use Rattle.engine.specs.Causes.{IsStoreFull, HasNoRoomFor, IsNone, HasHeadIn, IsBadPage, IsBadList, IsDue}
+use Rattle.engine.specs.Causes.{AreDue}
 use Rattle.engine.specs.Db.{DbValue, fault_of}
 use Rattle.engine.specs.Going.{Goes, stays}
+use Rattle.engine.specs.Places.{HasNoRoomOnList}
 use Rattle.engine.specs.Work.{ArePut, AreIndexing, AreStored, IsPlaceOf, IsRowPageOf, IsLinkOf}
 use Rattle.engine.specs.Inner.Changing.{doc_of}
 use Rattle.engine.specs.Inner.Indexing.{CannotAddRow, CannotPutRows, CannotLink, Indexes, NeedsRowPage}
-use Rattle.engine.specs.Inner.Indexing.{CannotIndex, Stores, NeedsPageAt, CannotStore, IsBadRowPage}
+use Rattle.engine.specs.Inner.Indexing.{CannotIndex, Stores, NeedsPageAt, CannotStore, IsBadRowPage, IsDueFrom}
+use Rattle.engine.specs.Inner.Indexing.{IsIndexedBy}
 use Rattle.engine.specs.Inner.Parts.{Puts, NeedsPageFor, CannotPut}
 use Rattle.engine.specs.declared.error.DbError.{DbError}
 use Rattle.engine.specs.declared.error.DbError.TheVariants as store
 use Rattle.engine.proofs.Marking.{page_is, slot_is}
+use Rattle.engine.proofs.Due.{put_due, stored_due}
 use Rattle.engine.proofs.Paths.{goes_on, goes_still}
 use Rattle.engine.proofs.Works.{some_row, some_rows}
 
@@ -46,7 +53,11 @@ some_row_page x d = (
     kind = kind.PutPending d.item d.serial;
     changes = images_of (sheet 0 free_page ∷ sheet 0 free_page ∷ []);
   },
-  record { xid = refl; kind_is = refl; images = (sheet 0 free_page ∷ sheet 0 free_page ∷ [], refl, refl) },
+  record {
+    xid = refl;
+    kind_is = refl;
+    images = (sheet 0 free_page ∷ sheet 0 free_page ∷ [], refl, (free_is, (free_is, tt)), refl);
+  },
 )
 
 some_link : (x : ℕ) (d : Doc) → (r : Record) × IsLinkOf x d r
@@ -57,7 +68,11 @@ some_link x d = (
     kind = kind.LinkPending d.item d.serial;
     changes = images_of (sheet 0 free_page ∷ sheet 0 free_page ∷ []);
   },
-  record { xid = refl; kind_is = refl; images = inl (sheet 0 free_page ∷ sheet 0 free_page ∷ [], refl, refl) },
+  record {
+    xid = refl;
+    kind_is = refl;
+    images = inl (sheet 0 free_page ∷ sheet 0 free_page ∷ [], refl, (free_is, (free_is, tt)), refl);
+  },
 )
 
 some_row_pages : (x : ℕ) (d : Doc) (n : ℕ) → (rs : List Record) × AllByRecursion (IsRowPageOf x d) rs × (length rs ≡ n)
@@ -153,7 +168,7 @@ module _ {D : Type 0} (device : Disk D) (old : DbValue D) (x : ℕ) (name : Name
     rest = [];
     are_rows = AreIndexing.row why.2.0 why.2.1 refl;
     goes = why.1;
-    why = why.2.2;
+    why = (subst (IsDueFrom device old keys) (sym (why.2.1).kind_is) tt, why.2.2);
   }
   add_cause (store.BadPage p) why =
       let r = some_row x (doc_of name) in
@@ -175,20 +190,25 @@ module _ {D : Type 0} (device : Disk D) (old : DbValue D) (x : ℕ) (name : Name
 
   -- after that pages were put, or not all
   module _ (mid : DbValue D) (packed : List Page) (pack : ArePacked (doc_of name).item keys packed)
-      (before : Goes device old mid []) (same : fault_of mid ≡ fault_of old) where
+      (full : HasNoRoomOnList old (doc_of name).item keys) (before : Goes device old mid [])
+      (same : fault_of mid ≡ fault_of old) where
     pub pages_cause : (n : ℕ) (e : DbError) → n ≡ length packed → CannotPutRows device mid x name n e
         → CannotIndex device old x name keys e
     pages_cause n (store.Down f) many why = sym same ∙ why
     pages_cause n store.StoreFull many why =
         let r = some_row_page x (doc_of name) in
         stopped_at x (doc_of name) keys packed pack why.done why.are_put device old
-        (λ (s : DbValue D) (q : Record). NeedsRowPage device q.kind × IsStoreFull s) why.store r.0
-        (omega (arith, why.few, many)) r.1 (goes_on device before why.goes)
-        (subst (NeedsRowPage device) (sym (r.1).kind_is) tt, why.why)
+        (λ (s : DbValue D) (q : Record). IsDueFrom device old keys q.kind × NeedsRowPage device q.kind × IsStoreFull s)
+        why.store r.0 (omega (arith, why.few, many)) r.1 (goes_on device before why.goes) (
+          subst (IsDueFrom device old keys) (sym (r.1).kind_is) full,
+          subst (NeedsRowPage device) (sym (r.1).kind_is) tt,
+          why.why,
+        )
     pages_cause n store.LogFull many why =
         stopped_at x (doc_of name) keys packed pack why.done why.are_put device old
-        (λ (s : DbValue D) (q : Record). HasNoRoomFor s q) why.store why.why.0
-        (omega (arith, why.few, many)) why.why.1 (goes_on device before why.goes) why.why.2
+        (λ (s : DbValue D) (q : Record). IsDueFrom device old keys q.kind × HasNoRoomFor s q) why.store why.why.0
+        (omega (arith, why.few, many)) why.why.1 (goes_on device before why.goes)
+        (subst (IsDueFrom device old keys) (sym (why.why.1).kind_is) full, why.why.2)
     pages_cause n (store.BadPage p) many why =
         let r = some_row_page x (doc_of name) in
         stopped_at x (doc_of name) keys packed pack why.done why.are_put device old
@@ -212,8 +232,9 @@ module _ {D : Type 0} (device : Disk D) (old : DbValue D) (x : ℕ) (name : Name
       link_cause (store.Down f) why = sym same ∙ sym still ∙ why
       link_cause store.LogFull why =
           unlinked_at x (doc_of name) keys packed pack done are device old
-          (λ (s : DbValue D) (q : Record). HasNoRoomFor s q) why.0 why.2.0 many why.2.1
-          (goes_still device (goes_on device before goes) why.1) why.2.2
+          (λ (s : DbValue D) (q : Record). IsDueFrom device old keys q.kind × HasNoRoomFor s q) why.0 why.2.0 many
+          why.2.1 (goes_still device (goes_on device before goes) why.1)
+          (subst (IsDueFrom device old keys) (sym (why.2.1).kind_is) full, why.2.2)
       link_cause (store.BadPage p) why =
           let r = some_link x (doc_of name) in
           unlinked_at x (doc_of name) keys packed pack done are device old
@@ -248,7 +269,7 @@ module _ {D : Type 0} (device : Disk D) (old : DbValue D) (x : ℕ) (bytes : Lis
       )
 
   putting : (Met : DbValue D → List Record → Record → Type 0) (Why : DbValue D → List Record → Record → Type 0)
-      → ((s : DbValue D) (rs : List Record) (r : Record) → Met s rs r → Why s rs r)
+      → ((s : DbValue D) (rs : List Record) (r : Record) → IsDue device old keys rs r.kind → Met s rs r → Why s rs r)
       → Puts device old x bytes Met → Stores device old x bytes keys Why
   putting Met Why tells p =
       let rows = some_rows x p.doc keys in
@@ -260,7 +281,9 @@ module _ {D : Type 0} (device : Disk D) (old : DbValue D) (x : ℕ) (bytes : Lis
         are_stored = subst (AreStored bytes keys x) (append_assoc p.done (p.next ∷ p.rest) rows.0)
             (stored_more p.doc (p.done ++ p.next ∷ p.rest) rows.0 p.are_put rows.1);
         goes = p.goes;
-        why = tells p.store p.done p.next p.why;
+        why = tells p.store p.done p.next
+            (put_due device old keys p.done x bytes p.doc (p.done ++ p.next ∷ p.rest) p.are_put p.next
+            (in_back p.next p.done (p.next ∷ p.rest) (inl refl))) p.why;
       }
 
   -- why it isn't put
@@ -268,15 +291,17 @@ module _ {D : Type 0} (device : Disk D) (old : DbValue D) (x : ℕ) (bytes : Lis
   put_cause (store.Down f) why = why
   put_cause store.StoreFull why = putting
       (λ (s : DbValue D) (rs : List Record) (r : Record). NeedsPageFor device bytes x s r.kind × IsStoreFull s)
-      (λ (s : DbValue D) (rs : List Record) (r : Record). NeedsPageAt device bytes x s r.kind × IsStoreFull s)
-      (λ s rs r met. (inl met.0, met.1)) why
+      (λ (s : DbValue D) (rs : List Record) (r : Record).
+      IsDue device old keys rs r.kind × NeedsPageAt device bytes x s r.kind × IsStoreFull s)
+      (λ s rs r due met. (due, inl met.0, met.1)) why
   put_cause store.LogFull why = putting
       (λ (s : DbValue D) (rs : List Record) (r : Record). HasNoRoomFor s r)
-      (λ (s : DbValue D) (rs : List Record) (r : Record). HasNoRoomFor s r) (λ s rs r met. met) why
+      (λ (s : DbValue D) (rs : List Record) (r : Record). IsDue device old keys rs r.kind × HasNoRoomFor s r)
+      (λ s rs r due met. (due, met)) why
   put_cause (store.BadPage p) why = putting
       (λ (s : DbValue D) (rs : List Record) (r : Record). IsBadPage s (λ (n : Name). ⊥) rs p)
       (λ (s : DbValue D) (rs : List Record) (r : Record). IsBadPage s (λ (n : Name). ⊥) rs p ⊎ IsBadList s p)
-      (λ s rs r met. inl met) why
+      (λ s rs r due met. inl met) why
   put_cause store.DiskFault why = tt
   put_cause store.OutOfMemory why = tt
   put_cause store.NoDocument why = absurd why
@@ -287,11 +312,11 @@ module _ {D : Type 0} (device : Disk D) (old : DbValue D) (x : ℕ) (bytes : Lis
   module _ (mid : DbValue D) (name : Name) (lt : name.slot < most_slots) (puts : List Record)
       (are : ArePut bytes x (doc_of name) puts) (goes : Goes device old mid puts) (same : fault_of mid ≡ fault_of old)
     where
-      pub stored_all : (new : DbValue D)
-          → (rs : List Record) × AreIndexing x (doc_of name) keys rs × Goes device mid new rs
-          → (rs : List Record) × AreStored bytes keys x rs × Goes device old new rs
-      stored_all new r =
-          (puts ++ r.0, stored_more (doc_of name) puts r.0 are r.1, goes_on device goes r.2)
+      pub stored_all : (new : DbValue D) → IsIndexedBy device mid new x (doc_of name) keys
+          → (rs : List Record) × AreStored bytes keys x rs × AreDue device old keys rs × Goes device old new rs
+      stored_all new indexed =
+          let r = stored_due device old mid new x bytes (doc_of name) keys puts are goes indexed in
+          (puts ++ r.0, stored_more (doc_of name) puts r.0 are r.1, r.2, r.3)
 
       pub stored_some : (new : DbValue D)
           → (done rest : List Record) × AreIndexing x (doc_of name) keys (done ++ rest) × Goes device mid new done
@@ -343,15 +368,26 @@ module _ {D : Type 0} (device : Disk D) (old : DbValue D) (x : ℕ) (bytes : Lis
             place = (page_is name lt ∙ sym own.0, slot_is name lt);
           }) own.1)
 
+      -- it may come after those that put it
+      due_then : (rs : List Record) (k : Kind) → IsDueFrom device mid keys k → IsDue device old keys (puts ++ rs) k
+      due_then rs (kind.PutPending item serial) none =
+          record { store = mid; first = puts; rest = rs; order = refl; goes = goes; no_room = none }
+      due_then rs (kind.LinkPending item serial) none =
+          record { store = mid; first = puts; rest = rs; order = refl; goes = goes; no_room = none }
+      due_then rs _ none = tt
+
       pub index_cause : (e : DbError) → CannotIndex device mid x name keys e → CannotStore device old x bytes keys e
       index_cause (store.Down f) why = sym same ∙ why
       index_cause store.StoreFull why = indexed_at
-          (λ (s : DbValue D) (r : Record). NeedsRowPage device r.kind × IsStoreFull s)
-          (λ (s : DbValue D) (rs : List Record) (r : Record). NeedsPageAt device bytes x s r.kind × IsStoreFull s)
-          (λ s rs r met. (inr met.0, met.1)) why
+          (λ (s : DbValue D) (r : Record).
+          IsDueFrom device mid keys r.kind × NeedsRowPage device r.kind × IsStoreFull s)
+          (λ (s : DbValue D) (rs : List Record) (r : Record).
+          IsDue device old keys rs r.kind × NeedsPageAt device bytes x s r.kind × IsStoreFull s)
+          (λ s rs r met. (due_then rs r.kind met.0, inr met.1, met.2)) why
       index_cause store.LogFull why = indexed_at
-          (λ (s : DbValue D) (r : Record). HasNoRoomFor s r)
-          (λ (s : DbValue D) (rs : List Record) (r : Record). HasNoRoomFor s r) (λ s rs r met. met) why
+          (λ (s : DbValue D) (r : Record). IsDueFrom device mid keys r.kind × HasNoRoomFor s r)
+          (λ (s : DbValue D) (rs : List Record) (r : Record). IsDue device old keys rs r.kind × HasNoRoomFor s r)
+          (λ s rs r met. (due_then rs r.kind met.0, met.1)) why
       index_cause (store.BadPage p) why = indexed_at
           (λ (s : DbValue D) (r : Record). IsBadRowPage device s name p ⊎ IsBadList s p)
           (λ (s : DbValue D) (rs : List Record) (r : Record). IsBadPage s (λ (n : Name). ⊥) rs p ⊎ IsBadList s p)

@@ -123,9 +123,9 @@ module _ {D : Type 0} (device : Disk D) where
 
     refusal_tells : (d new : DbValue D) (r e : DbError) → TellsOfWork device s t w r → TellsRefusal device d new r e
         → IsLawfulRefusal device old w e
-    refusal_tells d new r e told (inl same) = subst (IsLawfulRefusal device old w) (sym same.0) (work_tells r told)
-    refusal_tells d new r e told (inr met) =
-        subst (IsLawfulRefusal device old w) (sym met.0) (λ tells found H f up. tt)
+    refusal_tells d new r e told (TellsRefusal.same none rests) = work_tells r told
+    refusal_tells d new r e told (TellsRefusal.failed met) = λ tells found H f up. tt
+    refusal_tells d new r e told (TellsRefusal.memory off none) = λ tells found H f up. tt
 
     ending_tells : (d new : DbValue D) (e : DbError) → IsNotEnded device d new t.xid e → IsLawfulRefusal device old w e
     ending_tells d new e (IsNotEnded.full l gone) tells found H f up = all_there old w B.listed tells found H f up

@@ -1,6 +1,7 @@
 pub mod Logs
 pub mod Growing
 pub mod Works
+mod Due
 pub mod Doing
 pub mod Causing
 pub mod Ending
@@ -49,6 +50,7 @@ pub mod Indexes
 pub mod RowPuts
 mod PendingMoved
 pub mod Cleanups
+mod AtWork
 mod Sweeping
 mod Tidying
 mod Since

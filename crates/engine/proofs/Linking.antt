@@ -72,19 +72,23 @@ link_long : (n : Sheet) (list : List Sheet) → (length list ≡ 1) ⊎ (length 
 link_long n list (inl e) = inl (omega (arith, e))
 link_long n list (inr e) = inr (omega (arith, e))
 
+sheets_are : (xs : List Sheet) → AllByRecursion IsSheet xs → AllByRecursion (λ (x : Sheet). IsPage x.content) xs
+sheets_are [] all = tt
+sheets_are (x ∷ xs) all = ((all.0).content, sheets_are xs all.1)
+
 pub link_record : (s : StateValue) (x : ℕ) (name : Name) (heap : Page) (end : ListEnd) (last pages : ℕ) (step : Step)
     → IsLinkStep x name heap end last pages step → IsLinkOf x (doc_of name) (record_of s step)
 link_record s x name heap end last pages step made =
     let list : List Sheet = end_then end.meta end.first end.pages end.last made.first last pages in
     let q = link_of_step x name made.new list in
-    let xs : List Sheet = made_sheets (front_of s q) q.after in
-    let long : length xs ≡ length q.after = length-map q.after _ in
+    let are : AllByRecursion (λ (x : Sheet). IsPage x.content) q.after =
+    (made.is_page, sheets_are list made.are_sheets) in
     subst (λ (k : Step). IsLinkOf x (doc_of name) (record_of s k)) (sym made.step_is) (record {
       xid = refl;
       kind_is = refl;
       images = ⊎_elim
-          (λ (e : length q.after ≡ 2). inl (xs, long ∙ e, refl))
-          (λ (e : length q.after ≡ 3). inr (xs, long ∙ e, refl))
+          (λ (e : length q.after ≡ 2). inl (q.after, e, are, refl))
+          (λ (e : length q.after ≡ 3). inr (q.after, e, are, refl))
           (link_long (sheet name.page made.new) list
           (end_long end.meta end.first end.pages end.last made.first last pages));
     })

@@ -22,7 +22,7 @@ use Rattle.gin_place.specs.declared.error.PlaceError.{PlaceError}
 use Rattle.gin_place.specs.declared.error.PlaceError.TheVariants.{StoreFull, LogFull, DiskFault, Down, BadPage}
 use Rattle.gin_place.specs.declared.error.PlaceError.TheVariants.{OutOfMemory}
 use Rattle.engine.specs.Causes.{IsDown}
-use Rattle.engine.specs.Cleaning.{AreMoved}
+use Rattle.engine.specs.Cleaning.{IsAt, AreMoved}
 use Rattle.engine.specs.Db.{DbValue, state_of, IsUp}
 use Rattle.engine.specs.Going.{FaultIsTold}
 use Rattle.engine.specs.Vacuuming.{IsFloor, IsGone, OfDead, Stops, StopsFull}
@@ -31,6 +31,7 @@ use Rattle.engine.specs.Inner.Refusals.{place_refusal}
 use Rattle.engine.specs.Inner.Vacuumed.{AreKindsOf, Ends, IsVacuumed, ArePlacedSince, HasMaintained}
 use Rattle.engine.specs.declared.error.DbError.{DbError}
 use Rattle.engine.specs.declared.error.DbError.TheVariants as store
+use Rattle.engine.proofs.AtWork.{at_in_turn}
 use Rattle.engine.proofs.Stopped.{stops_before, stops_after, vacuumed, nothing_taken}
 use Rattle.engine.proofs.Sweeping.{comes_before, ends_before, ends_after, behind_then, refused_by}
 
@@ -128,37 +129,39 @@ module _ {D : Type 0} (device : Disk D) where
     out = dead_around IsGone f f1 g h q added was.out;
   }
 
-  full_around : (f f1 g h : FramesValue D) → HasAdded device f f1 [] → Quiet f f1 → HasAdded device g h []
+  full_around : (f f1 g h : FramesValue D) → IsAt f f1 → HasAdded device f f1 [] → Quiet f f1 → HasAdded device g h []
       → StopsFull device f1 g → StopsFull device f h
-  full_around f f1 g h before q added c = record {
+  full_around f f1 g h at before q added c = record {
     mid = c.mid;
-    full = comes_before device f f1 c.mid StoreFull before c.full;
+    at = at_in_turn f f1 c.mid at c.at;
+    full = comes_before device f f1 c.mid StoreFull at before c.full;
     kinds = c.kinds;
     taking = c.taking;
     added = subst (HasAdded device c.mid h) (append-nil c.kinds)
         (added_in_turn device c.mid g h c.kinds [] c.added added);
     rest = elim (c.rest) [
-      | inl (e, stops) ↦ inl (e, stops_after device c.mid g h e added stops)
-      | inr left ↦ inr (dead_around _ f f1 g h q added left)
+      | inl log ↦ inl (stops_after device c.mid g h LogFull added log)
+      | inr (inl (p, bad)) ↦ inr (inl (p, stops_after device c.mid g h (BadPage p) added bad))
+      | inr (inr left) ↦ inr (inr (dead_around _ f f1 g h q added left))
     ];
   }
 
-  stops_around : (f f1 g h : FramesValue D) (e : PlaceError) → HasAdded device f f1 [] → HasAdded device g h []
-      → Stops device f1 g e → Stops device f h e
-  stops_around f f1 g h e before added c =
-      stops_after device f g h e added (stops_before device f f1 g [] e before tt c)
+  stops_around : (f f1 g h : FramesValue D) (e : PlaceError) → IsAt f f1 → HasAdded device f f1 []
+      → HasAdded device g h [] → Stops device f1 g e → Stops device f h e
+  stops_around f f1 g h e at before added c =
+      stops_after device f g h e added (stops_before device f f1 g [] e at before tt c)
 
-  pub ends_around : (f f1 g h : FramesValue D) (v : Bool) → HasAdded device f f1 [] → Quiet f f1
+  pub ends_around : (f f1 g h : FramesValue D) (v : Bool) → IsAt f f1 → HasAdded device f f1 [] → Quiet f f1
       → HasAdded device g h []
       → (e : PlaceError) → Ends device v f1 g e → Ends device v f h e
-  ends_around f f1 g h false before q added e c =
-      ends_after device f g h e added (ends_before device f f1 g e before c)
-  ends_around f f1 g h true before q added StoreFull c = full_around f f1 g h before q added c
-  ends_around f f1 g h true before q added LogFull c = stops_around f f1 g h LogFull before added c
-  ends_around f f1 g h true before q added (BadPage p) c = stops_around f f1 g h (BadPage p) before added c
-  ends_around f f1 g h true before q added (Down n) c = c
-  ends_around f f1 g h true before q added DiskFault c = tt
-  ends_around f f1 g h true before q added OutOfMemory c = tt
+  ends_around f f1 g h false at before q added e c =
+      ends_after device f g h e added (ends_before device f f1 g e at before c)
+  ends_around f f1 g h true at before q added StoreFull c = full_around f f1 g h at before q added c
+  ends_around f f1 g h true at before q added LogFull c = stops_around f f1 g h LogFull at before added c
+  ends_around f f1 g h true at before q added (BadPage p) c = stops_around f f1 g h (BadPage p) at before added c
+  ends_around f f1 g h true at before q added (Down n) c = c
+  ends_around f f1 g h true at before q added DiskFault c = tt
+  ends_around f f1 g h true at before q added OutOfMemory c = tt
 
   -- ── as the store answers it ──
 

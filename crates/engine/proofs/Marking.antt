@@ -261,7 +261,7 @@ mark_record x name page step s lt made = subst (λ (q : Step). IsMarkOf x name (
       named = named name lt;
       xid = refl;
       kind_is = refl;
-      images = (made_sheets (front_of s (mark_of x name made.new)) (sheet name.page made.new ∷ []), refl, refl);
+      images = (sheet name.page made.new ∷ [], refl, (made.is_page, tt), refl);
     })
 
 module _ {D : Type 0} (device : Disk D) (a : DbValue D) (n x : ℕ) (name : Name) where

@@ -52,7 +52,7 @@ part_record s x name heap part page step made =
     subst (λ (k : Step). IsPartOf x (doc_of name) (record_of s k)) (sym made.step_is) (record {
       xid = refl;
       kind_is = refl;
-      images = (made_sheets (front_of s q) q.after, refl, refl);
+      images = (q.after, refl, (made.is_page, (made.is_part, tt)), refl);
     })
 
 module _ {D : Type 0} (device : Disk D) (old new : DbValue D) (pass pass' : Pass) (heap fresh : Sheet) (x : ℕ)

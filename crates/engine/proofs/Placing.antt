@@ -179,12 +179,12 @@ module _ {D : Type 0} (device : Disk D) (old new : DbValue D) (pass pass' : Pass
 
 module _ {D : Type 0} (device : Disk D) (a : DbValue D) (x : ℕ) (bytes : List ℕ) where
   -- the record is one that places the document, whose serial was drawn
-  pub places_it : (m : DbValue D) (page slot serial : ℕ) (new : Page) → serial ≡ (state_then m).next_serial
+  pub places_it : (m : DbValue D) (page slot serial : ℕ) (new : Page) → IsPage new → serial ≡ (state_then m).next_serial
       → IsPlaceOf x (doc_at (item_at page slot) serial) (next_record m.frames.journal (place_of x page slot new))
-  places_it m page slot serial new drawn = record {
+  places_it m page slot serial new is drawn = record {
     xid = refl;
     kind_is = ap (kind.PlaceHead (item_at page slot)) (sym drawn);
-    images = (made_sheets (front_of (state_then m) (place_of x page slot new)) (sheet page new ∷ []), refl, refl);
+    images = (sheet page new ∷ [], refl, (is, tt), refl);
   }
 
   -- why it isn't placed: no page was chosen, or the record was refused

@@ -132,18 +132,18 @@ module _ {D : Type 0} (device : Disk D) (s : DbValue D) (pass : Pass) (x : ℕ) 
 
 module _ {D : Type 0} (s : DbValue D) (x : ℕ) where
   pub begin_is : x ≡ suc (length (state_then s).fates) → IsBeginOf x (plain_record s kind.Begin 0)
-  begin_is drawn = record { xid = sym drawn; kind_is = refl; images = ([], refl, refl) }
+  begin_is drawn = record { xid = sym drawn; kind_is = refl; images = ([], refl, tt, refl) }
 
   pub commit_is : (n : ℕ) → IsCommitOf x (plain_record s (kind.Commit n) x)
   commit_is n = record {
     xid = refl;
     number = suc (length (state_then s).deleted);
     kind_is = refl;
-    images = ([], refl, refl);
+    images = ([], refl, tt, refl);
   }
 
   pub abort_is : IsAbortOf x (plain_record s kind.Abort x)
-  abort_is = record { xid = refl; kind_is = refl; images = ([], refl, refl) }
+  abort_is = record { xid = refl; kind_is = refl; images = ([], refl, tt, refl) }
 
 -- ── why it isn't logged ──
 

@@ -18,6 +18,7 @@ use Rattle.core_state.specs.PagesTold.{IsLastOf}
 use Rattle.core_state.specs.History.{Commit, Document, AreInserts, IsCommitOf}
 use Rattle.core_state.specs.Steps.{sheet}
 use Rattle.core_state.specs.declared.answers.Fate.TheVariants.{Running}
+use Rattle.core_state.proofs.Showing.{free_is}
 use Rattle.buffer_frames.specs.Drawing.{images_of}
 use Rattle.buffer_frames.specs.declared.pass.Pass.{Pass}
 use Rattle.engine.specs.Db.{DbValue}
@@ -31,7 +32,7 @@ use Rattle.engine.specs.Inner.Parts.{IsPlacedSoFar, IsRowedSoFar, AreIndexed, Ha
 pub some_place : (x : ℕ) (d : Doc) → (r : Record) × IsPlaceOf x d r
 some_place x d = (
   record { number = 0; xid = x; kind = kind.PlaceHead d.item d.serial; changes = images_of (sheet 0 free_page ∷ []) },
-  record { xid = refl; kind_is = refl; images = (sheet 0 free_page ∷ [], refl, refl) },
+  record { xid = refl; kind_is = refl; images = (sheet 0 free_page ∷ [], refl, (free_is, tt), refl) },
 )
 
 pub some_part : (x : ℕ) (d : Doc) → (r : Record) × IsPartOf x d r
@@ -42,7 +43,11 @@ some_part x d = (
     kind = kind.PutOverflow d.item d.serial;
     changes = images_of (sheet 0 free_page ∷ sheet 0 free_page ∷ []);
   },
-  record { xid = refl; kind_is = refl; images = (sheet 0 free_page ∷ sheet 0 free_page ∷ [], refl, refl) },
+  record {
+    xid = refl;
+    kind_is = refl;
+    images = (sheet 0 free_page ∷ sheet 0 free_page ∷ [], refl, (free_is, (free_is, tt)), refl);
+  },
 )
 
 pub some_parts : (x : ℕ) (d : Doc) (n : ℕ) → (rs : List Record) × AreParts d x n rs

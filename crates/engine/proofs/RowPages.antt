@@ -166,7 +166,7 @@ row_page_record s x name heap rows page step made =
     subst (λ (k : Step). IsRowPageOf x (doc_of name) (record_of s k)) (sym made.step_is) (record {
       xid = refl;
       kind_is = refl;
-      images = (made_sheets (front_of s q) q.after, refl, refl);
+      images = (q.after, refl, (made.is_page, (made.is_rows, tt)), refl);
     })
 
 -- ── a page of a packing ──

@@ -8,7 +8,7 @@ use Rattle.wal.specs.Waiting.{down_of}
 use Rattle.page_types.specs.Numbers.{page_limit}
 use Rattle.core_state.specs.Log.{Log}
 use Rattle.buffer_frames.specs.Frames.{FramesValue, Stands}
-use Rattle.buffer_frames.specs.Passes.{HasAdded, GoesOnBy}
+use Rattle.buffer_frames.specs.Passes.{IsPassOf, HasAdded, GoesOnBy}
 use Rattle.buffer_frames.specs.declared.pass.Pass.{Pass}
 use Rattle.buffer_frames.proofs.Added.{on_in_turn}
 use Rattle.buffer_frames.proofs.Begun.{same_by_none}
@@ -26,10 +26,11 @@ use Rattle.gin_vacuum.specs.Going.{IsVacuumKind, VacuumsOn}
 use Rattle.gin_vacuum.specs.Stepping.{IsBadIn, IsSweepKind}
 use Rattle.gin_vacuum.specs.Stepping as sweeps
 use Rattle.gin_vacuum.specs.Unlinked.{CannotList}
-use Rattle.engine.specs.Cleaning.{Comes}
+use Rattle.engine.specs.Cleaning.{IsAt, Comes}
 use Rattle.engine.specs.Vacuuming.{IsIndexKind, IsTakingOut, IsVacuum, IsWhy, Stops, StopsFull}
 use Rattle.engine.specs.Inner.Cleaned.{WorksThrough, EndsBy, NeverBad}
 use Rattle.engine.specs.Inner.Vacuumed.{EndsTaking, EndsVacuum}
+use Rattle.engine.proofs.AtWork.{at_in_turn, at_works, at_vacuums}
 use Rattle.engine.proofs.Cleanups.{all_both, index_kinds}
 
 -- ── kinds ──
@@ -104,13 +105,15 @@ module _ {D : Type 0} (device : Disk D) where
 
   -- ── a step is refused ──
 
-  stops_by : (f g left : FramesValue D) (p q : Pass) (ks : List ℕ) (e : PlaceError) → AllByRecursion IsIndexKind ks
-      → ((R : Log) → Stands device f R
+  stops_by : (f g left : FramesValue D) (p q : Pass) (ks : List ℕ) (e : PlaceError) → IsAt f g → IsPassOf g q
+      → AllByRecursion IsIndexKind ks → ((R : Log) → Stands device f R
       → (R' : Log) × GoesOnBy f.journal.owes R R' ks × Stands device g R' × Stands device left R')
       → IsWhy device left e g q → Stops device f left e
-  stops_by f g left p q ks e all logs why = record {
+  stops_by f g left p q ks e at of all logs why = record {
     frames = g;
     pass = q;
+    at = at;
+    is_pass = of;
     kinds = ks;
     index = all;
     logs = logs;
@@ -123,7 +126,7 @@ module _ {D : Type 0} (device : Disk D) where
       → ((g : FramesValue D) (q : Pass) → X g q → IsWhy device left e g q) → HasAdded device f left []
       → Finds device f p X → Stops device f left e
   stops_reading X f left p e to refused (g, q, works, met, why) =
-      stops_by f g left p q [] e tt
+      stops_by f g left p q [] e (at_works device f g p q [] works) works.is_pass tt
       (λ R s.
       let there = (works.added).on R s in
       let then = refused.on R s in (
@@ -139,15 +142,17 @@ module _ {D : Type 0} (device : Disk D) where
       → ((g : FramesValue D) (q : Pass) → X g q → IsWhy device left e g q)
       → VacuumMeets device f p left X → Stops device f left e
   stops_taking X f left p e to (g, q, ks, v, met, logs, why) =
-      stops_by f g left p q ks e (index_vacuum ks v.vacuum) logs (to g q why)
+      stops_by f g left p q ks e (at_vacuums device f g p q ks v) v.is_pass (index_vacuum ks v.vacuum) logs (to g q why)
 
   -- ── others before, and after ──
 
-  pub stops_before : (f m g : FramesValue D) (ks : List ℕ) (e : PlaceError) → HasAdded device f m ks
+  pub stops_before : (f m g : FramesValue D) (ks : List ℕ) (e : PlaceError) → IsAt f m → HasAdded device f m ks
       → AllByRecursion IsIndexKind ks → Stops device m g e → Stops device f g e
-  stops_before f m g ks e added all c = record {
+  stops_before f m g ks e at added all c = record {
     frames = c.frames;
     pass = c.pass;
+    at = at_in_turn f m c.frames at c.at;
+    is_pass = c.is_pass;
     kinds = ks ++ c.kinds;
     index = all_both IsIndexKind ks c.kinds all c.index;
     logs = λ R s.
@@ -168,6 +173,8 @@ module _ {D : Type 0} (device : Disk D) where
   stops_after f g h e added c = record {
     frames = c.frames;
     pass = c.pass;
+    at = c.at;
+    is_pass = c.is_pass;
     kinds = c.kinds;
     index = c.index;
     logs = λ R s.
@@ -183,6 +190,8 @@ module _ {D : Type 0} (device : Disk D) where
   stops_cleaning f g e c = record {
     frames = c.frames;
     pass = c.pass;
+    at = c.at;
+    is_pass = c.is_pass;
     kinds = c.kinds;
     index = index_kinds c.kinds c.cleaning;
     logs = c.logs;
@@ -208,22 +217,14 @@ module _ {D : Type 0} (device : Disk D) where
   ends_taking f g OutOfMemory up told full stops = stops
 
   -- what is so after others
-  pub taking_before : (f m g : FramesValue D) (ks : List ℕ) (e : PlaceError) → HasAdded device f m ks
+  pub taking_before : (f m g : FramesValue D) (ks : List ℕ) (e : PlaceError) → IsAt f m → HasAdded device f m ks
       → AllByRecursion IsIndexKind ks → EndsTaking device m g e → EndsTaking device f g e
-  taking_before f m g ks StoreFull added all c = c
-  taking_before f m g ks LogFull added all c = stops_before f m g ks LogFull added all c
-  taking_before f m g ks (BadPage p) added all c = stops_before f m g ks (BadPage p) added all c
-  taking_before f m g ks (Down n) added all c = c
-  taking_before f m g ks DiskFault added all c = stops_before f m g ks DiskFault added all c
-  taking_before f m g ks OutOfMemory added all c = stops_before f m g ks OutOfMemory added all c
-
-  pub taking_stops : (f g : FramesValue D) (e : PlaceError) → EndsTaking device f g e → Stops device f g e
-  taking_stops f g StoreFull c = absurd c
-  taking_stops f g LogFull c = c
-  taking_stops f g (BadPage p) c = c
-  taking_stops f g (Down n) c = absurd c
-  taking_stops f g DiskFault c = c
-  taking_stops f g OutOfMemory c = c
+  taking_before f m g ks StoreFull at added all c = c
+  taking_before f m g ks LogFull at added all c = stops_before f m g ks LogFull at added all c
+  taking_before f m g ks (BadPage p) at added all c = stops_before f m g ks (BadPage p) at added all c
+  taking_before f m g ks (Down n) at added all c = c
+  taking_before f m g ks DiskFault at added all c = stops_before f m g ks DiskFault at added all c
+  taking_before f m g ks OutOfMemory at added all c = stops_before f m g ks OutOfMemory at added all c
 
   pub vacuum_taking : (f g : FramesValue D) (e : PlaceError) → EndsTaking device f g e → EndsVacuum device f g e
   vacuum_taking f g StoreFull c = absurd c
@@ -234,16 +235,16 @@ module _ {D : Type 0} (device : Disk D) where
   vacuum_taking f g OutOfMemory c = tt
 
   -- the cleanup ends early, but not for want of a page
-  pub vacuum_cleaning : (f m g : FramesValue D) (e : PlaceError) → HasAdded device f m [] → (e ≡ StoreFull → ⊥)
-      → EndsBy device m g e → EndsVacuum device f g e
-  vacuum_cleaning f m g StoreFull added off c = absurd (off refl)
-  vacuum_cleaning f m g LogFull added off c =
-      stops_before f m g [] LogFull added tt (stops_cleaning m g LogFull c)
-  vacuum_cleaning f m g (BadPage p) added off c =
-      stops_before f m g [] (BadPage p) added tt (stops_cleaning m g (BadPage p) c)
-  vacuum_cleaning f m g (Down n) added off c = absurd c
-  vacuum_cleaning f m g DiskFault added off c = tt
-  vacuum_cleaning f m g OutOfMemory added off c = tt
+  pub vacuum_cleaning : (f m g : FramesValue D) (e : PlaceError) → IsAt f m → HasAdded device f m []
+      → (e ≡ StoreFull → ⊥) → EndsBy device m g e → EndsVacuum device f g e
+  vacuum_cleaning f m g StoreFull at added off c = absurd (off refl)
+  vacuum_cleaning f m g LogFull at added off c =
+      stops_before f m g [] LogFull at added tt (stops_cleaning m g LogFull c)
+  vacuum_cleaning f m g (BadPage p) at added off c =
+      stops_before f m g [] (BadPage p) at added tt (stops_cleaning m g (BadPage p) c)
+  vacuum_cleaning f m g (Down n) at added off c = absurd c
+  vacuum_cleaning f m g DiskFault at added off c = tt
+  vacuum_cleaning f m g OutOfMemory at added off c = tt
 
   -- what each step says of a full store
   pub sweep_cause : (f left : FramesValue D) (p : Pass) (e : PlaceError) → down_of f.journal.wal ≡ None
@@ -310,30 +311,45 @@ module _ {D : Type 0} (device : Disk D) where
 
   -- ── after the cleanup found no page ──
 
-  pub rest_by : {T : Type 0} {Left : Type 0} (f g : FramesValue D) (r : Result T PlaceError) → OnOk r Left
-      → IfErr r (λ e. EndsTaking device f g e) → ((e : PlaceError) × Stops device f g e) ⊎ Left
-  rest_by f g (Ok x) left ends = inr left
-  rest_by f g (Err e) left ends = inl (e, taking_stops f g e ends)
+  pub rest_by : {T : Type 0} {Left : Type 0} (f g : FramesValue D) (r : Result T PlaceError) (a : PlaceError)
+      → (r ≡ Err DiskFault → a ≡ DiskFault) → (r ≡ Err OutOfMemory → a ≡ OutOfMemory) → OnOk r Left
+      → IfErr r (λ e. EndsTaking device f g e) → a ≡ StoreFull
+      → Stops device f g LogFull ⊎ (((p : ℕ) × Stops device f g (BadPage p)) ⊎ Left)
+  rest_by f g (Ok x) a fault memory left ends full = inr (inr left)
+  rest_by f g (Err StoreFull) a fault memory left ends full = absurd ends
+  rest_by f g (Err LogFull) a fault memory left ends full = inl ends
+  rest_by f g (Err (BadPage p)) a fault memory left ends full = inr (inl (p, ends))
+  rest_by f g (Err (Down n)) a fault memory left ends full = absurd ends
+  rest_by f g (Err DiskFault) a fault memory left ends full =
+      let z : StoreFull ≡ DiskFault = sym full ∙ fault refl in absurd (let y : ⊥ = cc in y)
+  rest_by f g (Err OutOfMemory) a fault memory left ends full =
+      let z : StoreFull ≡ OutOfMemory = sym full ∙ memory refl in absurd (let y : ⊥ = cc in y)
 
-  pub told_full : {T : Type 0} (f g : FramesValue D) (r : Result T PlaceError) (a : PlaceError)
-      → (a ≡ StoreFull) ⊎ (a ≡ DiskFault) → (r ≡ Err DiskFault → a ≡ DiskFault) → (a ≡ DiskFault → r ≡ Err DiskFault)
+  -- what is answered then
+  abbrev FullOrOther : PlaceError → Type 0
+  FullOrOther a = (a ≡ StoreFull) ⊎ ((a ≡ DiskFault) ⊎ (a ≡ OutOfMemory))
+
+  none_met : {T : Type 0} (f g : FramesValue D) (r : Result T PlaceError) (a : PlaceError) → (a ≡ DiskFault → ⊥)
+      → (r ≡ Err DiskFault → a ≡ DiskFault) → OnOk r (MetNoFault device f g) → IfErr r (λ e. FaultBy device f g e)
+      → MetNoFault device f g
+  none_met f g (Ok y) a off to met bad = met
+  none_met f g (Err DiskFault) a off to met bad = absurd (off (to refl))
+  none_met f g (Err StoreFull) a off to met bad = bad
+  none_met f g (Err LogFull) a off to met bad = bad
+  none_met f g (Err (Down n)) a off to met bad = bad.0
+  none_met f g (Err (BadPage p)) a off to met bad = bad
+  none_met f g (Err OutOfMemory) a off to met bad = bad
+
+  pub told_full : {T : Type 0} (f g : FramesValue D) (r : Result T PlaceError) (a : PlaceError) → FullOrOther a
+      → (r ≡ Err DiskFault → a ≡ DiskFault) → (a ≡ DiskFault → r ≡ Err DiskFault)
       → OnOk r (MetNoFault device f g) → IfErr r (λ e. FaultBy device f g e) → FaultBy device f g a
-  told_full f g r a (inl full) to from fine told = subst (FaultBy device f g) (sym full) (none r to fine told)
-    where
-      none : {S : Type 0} (x : Result S PlaceError) → (x ≡ Err DiskFault → a ≡ DiskFault)
-          → OnOk x (MetNoFault device f g)
-          → IfErr x (λ e. FaultBy device f g e) → MetNoFault device f g
-      none (Ok y) only met bad = met
-      none (Err DiskFault) only met bad =
-          let z : StoreFull ≡ DiskFault = sym full ∙ only refl in absurd (let y : ⊥ = cc in y)
-      none (Err StoreFull) only met bad = bad
-      none (Err LogFull) only met bad = bad
-      none (Err (Down n)) only met bad = bad.0
-      none (Err (BadPage p)) only met bad = bad
-      none (Err OutOfMemory) only met bad = bad
-  told_full {T} f g r a (inr fault) to from fine told =
+  told_full {T} f g r a (inr (inl fault)) to from fine told =
       subst (FaultBy device f g) (sym fault)
       (subst (λ (x : Result T PlaceError). IfErr x (λ e. FaultBy device f g e)) (from fault) told)
+  told_full f g r a (inl full) to from fine told =
+      subst (FaultBy device f g) (sym full) (none_met f g r a (λ is. let z : ⊥ = cc in z) to fine told)
+  told_full f g r a (inr (inr memory)) to from fine told =
+      subst (FaultBy device f g) (sym memory) (none_met f g r a (λ is. let z : ⊥ = cc in z) to fine told)
 
   pub fine_full : (f g : FramesValue D) (e : PlaceError) → e ≡ StoreFull → FaultBy device f g e → MetNoFault device f g
   fine_full f g e full told = subst (FaultBy device f g) full told
@@ -342,11 +358,13 @@ module _ {D : Type 0} (device : Disk D) where
       → Comes device f g StoreFull
   comes_full f g e full ends = subst (EndsBy device f g) full ends
 
-  pub full_ends : (f g : FramesValue D) (e : PlaceError) → (e ≡ StoreFull) ⊎ (e ≡ DiskFault) → StopsFull device f g
+  pub full_ends : (f g : FramesValue D) (e : PlaceError) → FullOrOther e → (e ≡ StoreFull → StopsFull device f g)
       → EndsVacuum device f g e
-  full_ends f g e (inl full) stops = subst (EndsVacuum device f g) (sym full) stops
-  full_ends f g e (inr fault) stops = subst (EndsVacuum device f g) (sym fault) tt
+  full_ends f g e (inl full) stops = subst (EndsVacuum device f g) (sym full) (stops full)
+  full_ends f g e (inr (inl fault)) stops = subst (EndsVacuum device f g) (sym fault) tt
+  full_ends f g e (inr (inr memory)) stops = subst (EndsVacuum device f g) (sym memory) tt
 
-  pub full_lawful : (f : FramesValue D) (e : PlaceError) → (e ≡ StoreFull) ⊎ (e ≡ DiskFault) → NeverBad device f e
+  pub full_lawful : (f : FramesValue D) (e : PlaceError) → FullOrOther e → NeverBad device f e
   full_lawful f e (inl full) = subst (NeverBad device f) (sym full) tt
-  full_lawful f e (inr fault) = subst (NeverBad device f) (sym fault) tt
+  full_lawful f e (inr (inl fault)) = subst (NeverBad device f) (sym fault) tt
+  full_lawful f e (inr (inr memory)) = subst (NeverBad device f) (sym memory) tt

@@ -62,7 +62,7 @@ module _ {D : Type 0} (device : Disk D) where
       → CannotBegin device old new w.deletes e → TellsErr device T old new e → HasRefused device old new w e
   not_begun T old new w e p why told =
       refuse_with device old new w e (refuses_begin device old new w e (fault_told device T old new e told) why)
-      (is_refused device w p (Rattle.engine.specs.Work.AreRefused.none refl))
+      (is_refused device w e p (Rattle.engine.specs.Work.AreAborted.none refl))
 
   -- ── it ends ──
 
@@ -121,21 +121,21 @@ module _ {D : Type 0} (device : Disk D) where
     abbrev SomePath : DbValue D → DbValue D → Type 0
     SomePath a b = (rs : List Record) × Goes device a b rs
 
-    gone_path : GivesUp device d new t.xid → SomePath d new
-    gone_path (inl p) = ([], p)
-    gone_path (inr a) = (a.0 ∷ [], a.2)
+    gone_path : (e : DbError) → GivesUp device d new t.xid e → SomePath d new
+    gone_path e (inl p) = ([], p.0)
+    gone_path e (inr a) = (a.0 ∷ [], a.2)
 
     not_ended_path : (e : DbError) → IsNotEnded device d new t.xid e → SomePath d new
-    not_ended_path e (IsNotEnded.full l gone) = gone_path gone
-    not_ended_path e (IsNotEnded.memory gone) = gone_path gone
-    not_ended_path e (IsNotEnded.failed gone) = gone_path gone
+    not_ended_path e (IsNotEnded.full l gone) = gone_path _ gone
+    not_ended_path e (IsNotEnded.memory gone) = gone_path _ gone
+    not_ended_path e (IsNotEnded.failed gone) = gone_path _ gone
     not_ended_path e (IsNotEnded.flush c is p) = (c ∷ [], p)
 
     end_path : (r q : Result T DbError) → EndsAs device d new pass' t.xid r q → SomePath d new
     end_path (Ok a) (Ok g) ends = (ends.1.0 ∷ [], ends.1.2)
     end_path (Ok a) (Err e) ends = not_ended_path e ends.0
     end_path (Err r) (Ok g) ends = absurd ends
-    end_path (Err r) (Err e) ends = gone_path ends.0
+    end_path (Err r) (Err e) ends = gone_path e ends.0
 
     done_path : (r : Result T DbError) → IfOk r (λ a. HasDone device s d pass t w (commit_of w (name a)))
         → OnErr r (HasStopped device s d t.xid w) → SomePath s d

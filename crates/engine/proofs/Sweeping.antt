@@ -29,12 +29,13 @@ use Rattle.gin_cleanup.specs.Cleaning.{IsStillIn, SaysWhether}
 use Rattle.gin_cleanup.specs.Going.{IsCause}
 use Rattle.gin_vacuum.specs.Ending as vacuum
 use Rattle.engine.specs.Answers.{MeetsNoBadPage}
-use Rattle.engine.specs.Cleaning.{Comes, AreMoved, CannotClean}
+use Rattle.engine.specs.Cleaning.{IsAt, Comes, AreMoved, CannotClean}
 use Rattle.engine.specs.Db.{DbValue, state_of, IsUp}
 use Rattle.engine.specs.Going.{Goes, MetNoFault, FaultIsTold}
 use Rattle.engine.specs.Inner.Cleaned.{IndexGoesOn, CleansThrough, WorksUp, CleansUp, AreGoneSince, EndsBy, NeverBad}
 use Rattle.engine.specs.Inner.Refusals.{place_refusal}
 use Rattle.engine.specs.declared.error.DbError.{DbError}
+use Rattle.engine.proofs.AtWork.{at_in_turn, at_through, at_works}
 use Rattle.engine.proofs.Cleanups.{up_in_turn, up_by_none, added_by_none}
 use Rattle.engine.proofs.PendingMoved.{moved_all}
 
@@ -90,6 +91,8 @@ module _ {D : Type 0} (device : Disk D) where
       comes x (h, u, works, met, why) = record {
         frames = h;
         pass = u;
+        at = at_in_turn f m h (at_through device f m p q ks through) (at_works device m h q u [] works);
+        is_pass = works.is_pass;
         kinds = ks;
         cleaning = through.are;
         logs = λ R s.
@@ -114,11 +117,13 @@ module _ {D : Type 0} (device : Disk D) where
       by DiskFault told found = tt
       by OutOfMemory told found = tt
 
-  pub comes_before : (f m g : FramesValue D) (e : PlaceError) → HasAdded device f m [] → Comes device m g e
+  pub comes_before : (f m g : FramesValue D) (e : PlaceError) → IsAt f m → HasAdded device f m [] → Comes device m g e
       → Comes device f g e
-  comes_before f m g e added c = record {
+  comes_before f m g e at added c = record {
     frames = c.frames;
     pass = c.pass;
+    at = at_in_turn f m c.frames at c.at;
+    is_pass = c.is_pass;
     kinds = c.kinds;
     cleaning = c.cleaning;
     logs = λ R s.
@@ -135,6 +140,8 @@ module _ {D : Type 0} (device : Disk D) where
   comes_after f g h e added c = record {
     frames = c.frames;
     pass = c.pass;
+    at = c.at;
+    is_pass = c.is_pass;
     kinds = c.kinds;
     cleaning = c.cleaning;
     logs = λ R s.
@@ -146,14 +153,14 @@ module _ {D : Type 0} (device : Disk D) where
   }
 
   -- after calls that log nothing, and before such
-  pub ends_before : (f m g : FramesValue D) (e : PlaceError) → HasAdded device f m [] → EndsBy device m g e
+  pub ends_before : (f m g : FramesValue D) (e : PlaceError) → IsAt f m → HasAdded device f m [] → EndsBy device m g e
       → EndsBy device f g e
-  ends_before f m g StoreFull added c = comes_before f m g StoreFull added c
-  ends_before f m g LogFull added c = comes_before f m g LogFull added c
-  ends_before f m g (BadPage p) added c = comes_before f m g (BadPage p) added c
-  ends_before f m g (Down n) added c = c
-  ends_before f m g DiskFault added c = tt
-  ends_before f m g OutOfMemory added c = tt
+  ends_before f m g StoreFull at added c = comes_before f m g StoreFull at added c
+  ends_before f m g LogFull at added c = comes_before f m g LogFull at added c
+  ends_before f m g (BadPage p) at added c = comes_before f m g (BadPage p) at added c
+  ends_before f m g (Down n) at added c = c
+  ends_before f m g DiskFault at added c = tt
+  ends_before f m g OutOfMemory at added c = tt
 
   pub ends_after : (f g h : FramesValue D) (e : PlaceError) → HasAdded device g h [] → EndsBy device f g e
       → EndsBy device f h e

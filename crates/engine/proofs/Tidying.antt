@@ -17,7 +17,7 @@ use Rattle.buffer_frames.specs.Beginnings.{HasFlushed}
 use Rattle.page_types.specs.declared.record.Record.{Record}
 use Rattle.engine.specs.Answers.{IsSession, TakesSnapshot}
 use Rattle.engine.specs.Causes.{IsNoPageAt}
-use Rattle.engine.specs.Cleaning.{IsListLong, CannotLook, AreMoved, CannotClean, HasCleaned}
+use Rattle.engine.specs.Cleaning.{IsAt, IsListLong, CannotLook, AreMoved, CannotClean, HasCleaned}
 use Rattle.engine.specs.Db.{DbValue, state_of, IsUp}
 use Rattle.engine.specs.Going.{Goes, TimeGoesOn, MetNoFault}
 use Rattle.engine.specs.Inner.Cleaned.{CleansUp, AreGoneSince}
@@ -31,6 +31,7 @@ use Rattle.engine.proofs.Choosing.{lies_one}
 use Rattle.engine.proofs.Cleanups.{added_by_none, up_time}
 use Rattle.engine.proofs.Growing.{runs_of, runs_in_turn, begins_of}
 use Rattle.engine.proofs.Paths.{time_of, path_state, pending_of, fault_in_turn}
+use Rattle.engine.proofs.AtWork.{at_goes}
 use Rattle.engine.proofs.Sweeping.{comes_before}
 
 -- ── the metapage is held, and given back ──
@@ -113,6 +114,9 @@ module _ {D : Type 0} (device : Disk D) (a m b : DbValue D) (path : Goes device 
   same_records : (state_of m).records ≡ (state_of a).records
   same_records = ap (λ (s : StateValue). s.records) (path_state device path).state
 
+  at : IsAt a.frames m.frames
+  at = at_goes device a m path
+
   moved_before : AreMoved device m b → AreMoved device a b
   moved_before moved = record {
     gone = subst (λ (n : ℕ). AreGoneSince device n b.frames) same_records moved.gone;
@@ -125,11 +129,11 @@ module _ {D : Type 0} (device : Disk D) (a m b : DbValue D) (path : Goes device 
       let z : None ≡ Some f = sym (met.down ∙ up) ∙ why.0 in absurd (let y : ⊥ = cc in y)
   clean_before store.DiskFault why = fault_in_turn device (time_of device path) met why
   clean_before store.StoreFull why =
-      (up, comes_before device a.frames m.frames b.frames _ (added_by_none device a m path) why.1)
+      (up, comes_before device a.frames m.frames b.frames _ at (added_by_none device a m path) why.1)
   clean_before store.LogFull why =
-      (up, comes_before device a.frames m.frames b.frames _ (added_by_none device a m path) why.1)
+      (up, comes_before device a.frames m.frames b.frames _ at (added_by_none device a m path) why.1)
   clean_before (store.BadPage p) why =
-      (up, comes_before device a.frames m.frames b.frames _ (added_by_none device a m path) why.1)
+      (up, comes_before device a.frames m.frames b.frames _ at (added_by_none device a m path) why.1)
   clean_before store.OutOfMemory why = up
   clean_before store.NoDocument why = absurd why
   clean_before (store.Conflict x) why = absurd why

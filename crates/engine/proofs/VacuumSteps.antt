@@ -21,7 +21,7 @@ use Rattle.gin_place.specs.declared.error.PlaceError.TheVariants.{StoreFull, Log
 use Rattle.gin_place.specs.declared.error.PlaceError.TheVariants.{OutOfMemory}
 use Rattle.gin_vacuum.specs.Finding.{IsFloor, HasFoundDead}
 use Rattle.gin_vacuum.specs.Vacuum.{HaveDeadHeads, AreDead}
-use Rattle.engine.specs.Cleaning.{Comes}
+use Rattle.engine.specs.Cleaning.{IsAt, Comes}
 use Rattle.engine.specs.Vacuuming.{IsIndexKind, IsTakingOut, IsGone, OfDead, Stops, StopsFull}
 use Rattle.engine.specs.Inner.Cleaned.{CleansThrough, AreGoneSince}
 use Rattle.engine.specs.Inner.Vacuumed.{SeesAll, AreTakenOut, LeaveLinked, ArePlacedSince, IsVacuumed, EndsTaking}
@@ -29,6 +29,7 @@ use Rattle.engine.specs.Inner.Vacuumed.{EndsVacuum}
 use Rattle.engine.proofs.Cleanups.{all_both, index_kinds}
 use Rattle.engine.proofs.DeadKept.{heads_kept, dead_kept}
 use Rattle.engine.proofs.Since.{sees_all}
+use Rattle.engine.proofs.AtWork.{at_in_turn, at_works, at_through}
 use Rattle.engine.proofs.Stopped.{kinds_taken, OutKind, taking_before, vacuum_taking}
 use Rattle.engine.proofs.Sweeping.{gone_earlier, comes_before}
 use Rattle.engine.proofs.Vacuumed.{placed_by, gone_then, gone_now, gone_or_linked}
@@ -42,6 +43,9 @@ module _ {D : Type 0} (device : Disk D) (f f1 : FramesValue D) (p p1 : Pass) (of
     (all : p.seen ≡ f.journal.state.records) (reads : WorksOn device f p f1 p1 []) where
   whole_first : SeesAll device f p
   whole_first tells up R stands legal = omega (arith, log_length device f.journal R stands.journal, all)
+
+  read : IsAt f f1
+  read = at_works device f f1 p p1 [] reads
 
   -- once dead documents were sought
   pub whole_found : SeesAll device f1 p1
@@ -128,23 +132,27 @@ module _ {D : Type 0} (device : Disk D) (f f1 : FramesValue D) (p p1 : Pass) (of
           gone_then device f2 f3 js p.seen added (gone_earlier device f2 p.seen p1.seen (reads.rises.seen) gone)
 
       pub full_by : Comes device f1 f2 StoreFull
-          → ((e : PlaceError) × Stops device f2 f3 e) ⊎ LeaveLinked device p2.seen items f3 → StopsFull device f f3
+          → Stops device f2 f3 LogFull
+          ⊎ (((n : ℕ) × Stops device f2 f3 (BadPage n)) ⊎ LeaveLinked device p2.seen items f3) → StopsFull device f f3
       full_by comes rest = record {
         mid = f2;
-        full = comes_before device f f1 f2 StoreFull reads.added comes;
+        at = at_in_turn f f1 f2 read (at_through device f1 f2 p1 p2 ks clean);
+        full = comes_before device f f1 f2 StoreFull read reads.added comes;
         kinds = js;
         taking = taking;
         added = added;
         rest = elim rest [
-          | inl stops ↦ inl stops
-          | inr left ↦ inr (λ tells up R stands legal P Q shown shown' floor is d dead.
+          | inl log ↦ inl log
+          | inr (inl bad) ↦ inr (inl bad)
+          | inr (inr left) ↦ inr (inr (λ tells up R stands legal P Q shown shown' floor is d dead.
               gone_or_linked device f f1 f3 p1 (ks ++ js) items p2.seen reads.added more both whole_found least most
-              found_at tells up R stands legal P Q shown shown' floor is d dead left)
+              found_at tells up R stands legal P Q shown shown' floor is d dead left))
         ];
       }
 
     pub ends_by_taking : (f3 : FramesValue D) (e : PlaceError) → EndsTaking device f2 f3 e → EndsVacuum device f f3 e
     ends_by_taking f3 e ends =
         vacuum_taking device f f3 e
-        (taking_before device f f1 f3 [] e reads.added tt
-        (taking_before device f1 f2 f3 ks e clean.added (index_kinds ks clean.are) ends))
+        (taking_before device f f1 f3 [] e read reads.added tt
+        (taking_before device f1 f2 f3 ks e (at_through device f1 f2 p1 p2 ks clean) clean.added
+        (index_kinds ks clean.are) ends))

@@ -18,11 +18,12 @@ use Rattle.core_state.specs.States.{StateValue, fate_of}
 use Rattle.core_state.specs.declared.answers.Fate.{Fate}
 use Rattle.core_state.specs.declared.lives.Life.{Life}
 use Rattle.core_state.specs.declared.lives.Placed.{Placed}
-use Rattle.buffer_frames.specs.Drawing.{images_of}
+use Rattle.core_state.proofs.Showing.{free_is}
+use Rattle.buffer_frames.specs.Drawing.{images_of, made_sheets}
 use Rattle.engine.specs.Finding.{Name}
 use Rattle.engine.specs.Work.{Work, IsBeginOf, IsMarkOf, IsPlaceOf, IsPartOf, AreMarks, AreParts}
 use Rattle.engine.specs.Work.{ArePut, ArePlaces, AreIndexing, AreStored, IsRowPageOf, IsRowOf, IsLinkOf, IsWork}
-use Rattle.engine.specs.Work.{IsBegunWork, AreRefused, parts_for}
+use Rattle.engine.specs.Work.{IsBegunWork, AreAborted, AreRefused, parts_for}
 use Rattle.engine.specs.Causes.{IsListedIn}
 use Rattle.engine.proofs.Logs.{NotCommit, AreNoCommits, none_of_both}
 
@@ -66,11 +67,13 @@ listed_named s k n l =
 
 -- ── there are records for the rest of the work ──
 
-some_sheet : Sheet
+abbrev some_sheet : Sheet
 some_sheet = record { page = 0; content = free_page }
 
 record_with : ℕ → Kind → List Sheet → Record
-record_with x k xs = record { number = 0; xid = x; kind = k; changes = images_of xs }
+record_with x k xs =
+    let r : Record = record { number = 0; xid = x; kind = k; changes = [] } in
+    record r { changes = images_of (made_sheets r xs) }
 
 some_mark : (x : ℕ) (n : Name) → IsNamed n → (r : Record) × IsMarkOf x n r
 unfolding record_with
@@ -81,7 +84,7 @@ some_mark x n named = (
     named = named.1;
     xid = refl;
     kind_is = refl;
-    images = (some_sheet ∷ [], refl, refl);
+    images = (some_sheet ∷ [], refl, (free_is, tt), refl);
   },
 )
 
@@ -95,7 +98,11 @@ some_parts x d zero = ([], refl)
 some_parts x d (suc n) =
     let rest = some_parts x d n in
     let part : IsPartOf x d (record_with x (kind.PutOverflow d.item d.serial) (some_sheet ∷ some_sheet ∷ [])) =
-    record { xid = refl; kind_is = refl; images = (some_sheet ∷ some_sheet ∷ [], refl, refl) } in
+    record {
+      xid = refl;
+      kind_is = refl;
+      images = (some_sheet ∷ some_sheet ∷ [], refl, (free_is, (free_is, tt)), refl);
+    } in
     let more : suc n ≡ n + 1 = omega arith in (
       record_with x (kind.PutOverflow d.item d.serial) (some_sheet ∷ some_sheet ∷ []) ∷ rest.0,
       (part, (n, more, rest.1)),
@@ -106,7 +113,7 @@ unfolding record_with
 some_put x bytes d =
     let rest = some_parts x d (parts_for (length bytes)) in
     let place : IsPlaceOf x d (record_with x (kind.PlaceHead d.item d.serial) (some_sheet ∷ [])) =
-    record { xid = refl; kind_is = refl; images = (some_sheet ∷ [], refl, refl) } in
+    record { xid = refl; kind_is = refl; images = (some_sheet ∷ [], refl, (free_is, tt), refl) } in
     (record_with x (kind.PlaceHead d.item d.serial) (some_sheet ∷ []) ∷ rest.0, (place, rest.1))
 
 -- a row of all keys
@@ -114,7 +121,7 @@ pub some_row : (x : ℕ) (d : Doc) → (r : Record) × IsRowOf x d r
 unfolding record_with
 some_row x d = (
   record_with x (kind.AddRow d.item d.serial) (some_sheet ∷ []),
-  record { xid = refl; kind_is = refl; images = (some_sheet ∷ [], refl, refl) },
+  record { xid = refl; kind_is = refl; images = (some_sheet ∷ [], refl, (free_is, tt), refl) },
 )
 
 pub some_rows : (x : ℕ) (d : Doc) (keys : List Key) → (rs : List Record) × AreIndexing x d keys rs
@@ -258,7 +265,7 @@ begun_plain w x (b ∷ done) is =
     (begin_plain x b is.0, front_plain done is.1.0 (work_plain w x (done ++ is.1.0) is.1.1))
 
 pub refused_plain : (w : Work) (rs : List Record) → AreRefused w rs → AreNoCommits rs
-refused_plain w rs (AreRefused.none e) = subst AreNoCommits (sym e) tt
-refused_plain w rs (AreRefused.aborted x begun e is abort order) = subst AreNoCommits (sym order)
+refused_plain w rs (AreRefused.ended (AreAborted.none e)) = subst AreNoCommits (sym e) tt
+refused_plain w rs (AreRefused.ended (AreAborted.aborted x begun e is abort order)) = subst AreNoCommits (sym order)
     (none_of_both begun (e ∷ []) (begun_plain w x begun is) (plain_of e kind.Abort abort.kind_is tt, tt))
 refused_plain w rs (AreRefused.left x is) = begun_plain w x rs is

@@ -15,9 +15,9 @@ use Rattle.engine.specs.Finding.{Name, History, docs, IsFound, IsInSnapshot, Are
 use Rattle.engine.specs.Db.{DbValue, disk_of, fault_of, state_of, IsUp, IsFlushed, flushed_of}
 use Rattle.engine.specs.Standing.{StandsFor, HasGrown}
 use Rattle.engine.specs.Going.{Goes, MetFault}
-use Rattle.engine.specs.Work.{Work, commit_of, deleted_by, AreCommitted, AreRefused}
+use Rattle.engine.specs.Work.{Work, keys_by, commit_of, deleted_by, AreCommitted, AreAborted, AreRefused}
 use Rattle.engine.specs.Causes.{IsDown, AreXidsSpent, IsListed, IsBadRead, IsMissing, Conflicts, AreThere, LacksPage}
-use Rattle.engine.specs.Causes.{LacksLog, LacksLogForBegin, MeetsBadPage}
+use Rattle.engine.specs.Causes.{LacksLog, LacksLogForBegin, LacksLogForAbort, MeetsBadPage, AreDue}
 use Rattle.engine.specs.declared.commit_names.CommitNames.{CommitNames}
 use Rattle.engine.specs.declared.error.DbError.{DbError}
 use Rattle.engine.specs.declared.error.DbError.TheVariants.{NoDocument, Conflict, StoreFull, LogFull, XidsSpent, Down}
@@ -101,7 +101,8 @@ module _ {D : Type 0} (device : Disk D) (old new : DbValue D) where
     pub xids : AreXidsSpent old → ⊥
     pub there : AreThere device old w
     pub were_there : WereThere w
-    pub goes : (rs : List Record) × AreCommitted w rs × Goes device old new rs
+    pub goes : (rs : List Record) × AreCommitted w rs × AreDue device old (keys_by w.inserts) rs
+        × Goes device old new rs
     pub logged : HasLogged device old new (AreCommitted w)
     pub grown : device.tells → HasGrown device old new (commit_of w name ∷ [])
     pub flushed : device.tells → (found H : History) → StandsFor device found old H
@@ -119,10 +120,13 @@ module _ {D : Type 0} (device : Disk D) (old new : DbValue D) where
 
   -- ── work that is refused ──
 
-  -- the work was not done, and no document has changed
-  pub record IsRefused (w : Work) : Type 0 where
+  -- The work was not done, and no document has changed. What was begun is aborted, unless the Abort was refused: the
+  -- device failed or memory ran out, as is answered then, or the log had no room for it.
+  pub record IsRefused (w : Work) (answer : DbError) : Type 0 where
     pub nothing : device.tells → ChangesNothing
     pub logged : HasLogged device old new (AreRefused w)
+    pub aborted : ((rs : List Record) × AreAborted w rs × Goes device old new rs)
+        ⊎ ((answer ≡ DiskFault) ⊎ ((answer ≡ OutOfMemory) ⊎ LacksLogForAbort device old w new))
 
   -- The work may begin: what it deletes is in the snapshot, and there is an xid.
   pub record MayStart (w : Work) : Type 0 where
@@ -147,8 +151,8 @@ module _ {D : Type 0} (device : Disk D) (old new : DbValue D) where
 
   -- it was refused so; the device's fault may leave its commit in doubt
   abbrev pub HasRefused : Work → DbError → Type 0
-  HasRefused w DiskFault = Refuses w DiskFault × (IsRefused w ⊎ ((name : Name) × IsInDoubt w name))
-  HasRefused w e = Refuses w e × IsRefused w
+  HasRefused w DiskFault = Refuses w DiskFault × (IsRefused w DiskFault ⊎ ((name : Name) × IsInDoubt w name))
+  HasRefused w e = Refuses w e × IsRefused w e
 
   -- what work that inserts a document is answered, and what it leaves
   abbrev pub HasStored : Pass → Work → Result Name DbError → Type 0

@@ -1,5 +1,5 @@
 -- Why a store refuses a call.
-use Rattle.std.specs.Prelude.{◌≡◌, ◌≢◌, ◌⊎◌, ℕ, suc, ◌<◌, ◌≤◌, List, [], length, Option, Some, ⊤}
+use Rattle.std.specs.Prelude.{◌≡◌, ◌≢◌, ◌⊎◌, ℕ, suc, ◌<◌, ◌≤◌, List, [], ◌++◌, length, Option, Some, ⊤}
 use Rattle.disk_trait.specs.declared.device.Disk.{Ghosts as Disk}
 use Rattle.wal.specs.Waiting.{limit_of, length_with}
 use Rattle.page_types.specs.Numbers.{page_limit}
@@ -24,12 +24,13 @@ use Rattle.buffer_frames.specs.Homes.{IsNoPage}
 use Rattle.buffer_frames.specs.Journals.{logged_bytes}
 use Rattle.ts_base.specs.Vectors.{Vector}
 use Rattle.ts_base.specs.Encoding.{vector_bytes}
+use Rattle.ts_base.specs.Keys.{Key}
 use Rattle.core_moments.specs.Walk.{Sought}
 use Rattle.core_moments.specs.OpenLaws.{IsLeaf, IsPostingPage}
 use Rattle.gin_scan.specs.Causes.{HasMeta, HasRows, HasWay}
 use Rattle.engine.specs.Finding.{Name}
-use Rattle.engine.specs.Places.{Lies, IsSince, head_for, NoHeapPageHasRoom}
-use Rattle.engine.specs.Work.{Work, IsBegunWork, IsNext}
+use Rattle.engine.specs.Places.{Lies, IsSince, head_for, NoHeapPageHasRoom, HasNoRoomOnList}
+use Rattle.engine.specs.Work.{Work, IsBegunWork, IsAbortOf, IsNext, keys_by}
 use Rattle.engine.specs.Going.{Goes}
 use Rattle.engine.specs.Db.{DbValue, fault_of, flushed_of, state_of, state_then}
 
@@ -194,6 +195,27 @@ module _ {D : Type 0} (s : DbValue D) where
     heap : IsNone IsHeap p → IsBadRead p
     part : IsNone IsPart p → IsBadRead p
 
+module _ {D : Type 0} (device : Disk D) (old : DbValue D) where
+  -- after some of these records, which are logged from an old store on, the pending list had no room for a row of
+  -- this item with all its keys
+  pub record HadNoRoomOnList (keys : List Key) (item : ℕ) (rs : List Record) : Type 0 where
+    pub store : DbValue D
+    pub first : List Record
+    pub rest : List Record
+    pub order : rs ≡ first ++ rest
+    pub goes : Goes device old store first
+    pub no_room : HasNoRoomOnList store item keys
+
+  -- a record of this kind may come next: pages of rows come only where there was no room for one row
+  abbrev pub IsDue : List Key → List Record → Kind → Type 0
+  IsDue keys rs (kind.PutPending item serial) = HadNoRoomOnList keys item rs
+  IsDue keys rs (kind.LinkPending item serial) = HadNoRoomOnList keys item rs
+  IsDue keys rs k = ⊤
+
+  -- each of these records might come where it came
+  abbrev pub AreDue : List Key → List Record → Type 0
+  AreDue keys rs = (r : Record) → In r rs → IsDue keys rs r.kind
+
 -- As the work of a statement so far has left the store: it began from an old one, transaction x is its
 -- own, and it has logged these records.
 module _ {D : Type 0} (device : Disk D) (old : DbValue D) (w : Work) where
@@ -232,17 +254,24 @@ module _ {D : Type 0} (device : Disk D) (old : DbValue D) (w : Work) where
   abbrev pub LacksPage : Type 0
   LacksPage =
       SoFar (λ (s : DbValue D) (x : ℕ) (rs : List Record). (r : Record) × (v : Vector) × IsNext w x rs r
-      × (w.inserts ≡ Some v) × NeedsPage s v x r.kind × IsStoreFull s)
+      × IsDue device old (keys_by w.inserts) rs r.kind × (w.inserts ≡ Some v) × NeedsPage s v x r.kind × IsStoreFull s)
 
   -- the log has no room for the next record of the work, after its Begin
   abbrev pub LacksLog : Type 0
   LacksLog =
-      SoFar (λ (s : DbValue D) (x : ℕ) (rs : List Record). (r : Record) × IsNext w x rs r × HasNoRoomFor s r)
+      SoFar (λ (s : DbValue D) (x : ℕ) (rs : List Record). (r : Record) × IsNext w x rs r
+      × IsDue device old (keys_by w.inserts) rs r.kind × HasNoRoomFor s r)
 
   -- it has no room for its Begin
   abbrev pub LacksLogForBegin : Type 0
   LacksLogForBegin =
       (s : DbValue D) × (x : ℕ) × (r : Record) × Goes device old s [] × IsNext w x [] r × HasNoRoomFor s r
+
+  -- after what it has done until it is left so the log has no room for its Abort
+  abbrev pub LacksLogForAbort : DbValue D → Type 0
+  LacksLogForAbort left =
+      SoFar (λ (s : DbValue D) (x : ℕ) (rs : List Record). (r : Record) × IsAbortOf x r × HasNoRoomFor s r
+      × Goes device s left [])
 
   -- at one of its steps a page is none, or one of another kind than the one sought
   abbrev pub MeetsBadPage : ℕ → Type 0

@@ -1,8 +1,9 @@
 -- What a cleanup of the index answers, and what it leaves; and what an insert leaves where one comes by
 -- itself after it.
-use Rattle.std.specs.Prelude.{◌≡◌, ℕ, ◌<◌, ◌≤◌, List, [], Result, Ok, Err, ⊤}
+use Rattle.std.specs.Prelude.{◌≡◌, ◌⊎◌, ℕ, ◌<◌, ◌≤◌, List, [], Result, Ok, Err, ⊤}
 use Rattle.std.specs.List.{AllByRecursion}
 use Rattle.disk_trait.specs.declared.device.Disk.{Ghosts as Disk}
+use Rattle.wal.specs.Waiting.{limit_of}
 use Rattle.page_types.specs.Pages.{IsPage}
 use Rattle.page_types.specs.Records.{kind_number}
 use Rattle.page_types.specs.declared.page.Page.{Page}
@@ -12,8 +13,10 @@ use Rattle.page_types.specs.declared.record.Record.{Record}
 use Rattle.ts_base.specs.Keys.{Key}
 use Rattle.core_state.specs.Log.{Log, Pages, Shows, cut}
 use Rattle.core_state.specs.Index.{Pending, Main}
+use Rattle.snap_pins.specs.Taken.{IsPinned}
+use Rattle.snap_pins.specs.declared.Pin.{Pin}
 use Rattle.buffer_frames.specs.Frames.{FramesValue, Stands, Behind}
-use Rattle.buffer_frames.specs.Passes.{GoesOnBy}
+use Rattle.buffer_frames.specs.Passes.{IsPassOf, GoesOnBy}
 use Rattle.buffer_frames.specs.declared.pass.Pass.{Pass}
 use Rattle.gin_place.specs.declared.error.PlaceError.{PlaceError}
 use Rattle.gin_place.specs.declared.error.PlaceError.TheVariants as places
@@ -34,11 +37,24 @@ use Rattle.engine.specs.declared.error.DbError.TheVariants.{StoreFull, LogFull, 
 abbrev pub AreCleaning : List Record → Type 0
 AreCleaning rs = AllByRecursion (λ (r : Record). IsCleaningKind (kind_number r.kind)) rs
 
--- A cleanup that began here has logged such records, and came to where a step of it is refused so. The log that is
--- left is that one.
+-- Work on the index that began here is at these frames: the limits of the log and of the pages are those that there
+-- were. A snapshot that is in use was so before, or has all commits that were flushed and is of a log no shorter than
+-- it was.
+pub record IsAt {D : Type 0} (f g : FramesValue D) : Type 0 where
+  pub limit : limit_of g.journal.wal ≡ limit_of f.journal.wal
+  pub pages : g.journal.state.pages ≡ f.journal.state.pages
+  pub flushed : f.journal.flushed ≤ g.journal.flushed
+  pub longer : f.journal.state.records ≤ g.journal.state.records
+  pub pins : (place : ℕ) (p : Pin) → IsPinned g.pins place p
+      → IsPinned f.pins place p ⊎ ((f.journal.flushed ≤ p.commits) × (f.journal.state.records ≤ p.length))
+
+-- A cleanup that began here has logged such records, and its pass came to where a step of it is refused so. The log
+-- that is left is that one.
 pub record Comes {D : Type 0} (device : Disk D) (f new : FramesValue D) (e : PlaceError) : Type 0 where
   pub frames : FramesValue D
   pub pass : Pass
+  pub at : IsAt f frames
+  pub is_pass : IsPassOf frames pass
   pub kinds : List ℕ
   pub cleaning : AllByRecursion IsCleaningKind kinds
   pub logs : (R : Log) → Stands device f R

@@ -1,14 +1,17 @@
 -- Where pages lie, and which are sought for a document.
-use Rattle.std.specs.Prelude.{ℕ, List, [], length, nat_le, if◌then◌else◌}
+use Rattle.std.specs.Prelude.{◌≡◌, ◌≢◌, ℕ, List, [], length, nat_le, if◌then◌else◌}
 use Rattle.page_types.specs.Numbers.{most_short}
 use Rattle.page_types.specs.declared.page.Page.{Page}
 use Rattle.page_types.specs.declared.page.Head.{Head}
+use Rattle.page_types.specs.declared.page.Body.TheVariants as body
+use Rattle.ts_base.specs.Keys.{Key}
 use Rattle.core_state.specs.Log.{In}
 use Rattle.core_state.specs.States.{heap_pages}
 use Rattle.snap_pins.specs.Taken.{IsLeast}
 use Rattle.snap_pins.specs.declared.Pin.{Pin}
 use Rattle.buffer_frames.specs.Frames as frames
 use Rattle.doc_heap.specs.HeapPages.{HasNoRoom}
+use Rattle.pending_list.specs.Adding as rows
 use Rattle.engine.specs.Db.{DbValue, state_of}
 
 -- the page lies in memory under this number, and nobody holds it
@@ -37,7 +40,14 @@ head_for x bytes = record {
   vector = bytes_in_head bytes;
 }
 
--- of the heap pages that a head is tried on, none has room for this one
+-- each heap page that a head is tried on lies in memory, and has no room for this one
 abbrev pub NoHeapPageHasRoom : {D : Type 0} → DbValue D → Head → Type 0
-NoHeapPageHasRoom s h =
-    (p : ℕ) (c : Page) → In p (heap_pages (state_of s)) → Lies s p c → HasNoRoom c h
+NoHeapPageHasRoom s h = (p : ℕ) → In p (heap_pages (state_of s)) → (c : Page) × Lies s p c × HasNoRoom c h
+
+-- by the pages that lie in memory the pending list has no last page, or that has no room for a row of this item with
+-- these keys
+pub data HasNoRoomOnList {D : Type 0} (s : DbValue D) (item : ℕ) (keys : List Key) : Type 0 where
+  none : (meta : Page) (first pages : ℕ) → Lies s 0 meta → meta.body ≡ body.Meta first 0 pages
+      → HasNoRoomOnList s item keys
+  full : (meta last : Page) (first p pages : ℕ) → Lies s 0 meta → meta.body ≡ body.Meta first p pages
+      → p ≢ 0 → Lies s p last → rows.HasNoRoom last item keys → HasNoRoomOnList s item keys

@@ -14,7 +14,7 @@ use Rattle.core_state.specs.Legal.{Keeps}
 use Rattle.snap_pins.specs.Taken.{IsPinned}
 use Rattle.snap_pins.specs.declared.Pin.{Pin}
 use Rattle.buffer_frames.specs.Frames.{FramesValue, Stands, Behind, pin_of}
-use Rattle.buffer_frames.specs.Passes.{GoesOnBy, HasAdded}
+use Rattle.buffer_frames.specs.Passes.{IsPassOf, GoesOnBy, HasAdded}
 use Rattle.buffer_frames.specs.declared.pass.Pass.{Pass}
 use Rattle.gin_place.specs.declared.error.PlaceError.{PlaceError}
 use Rattle.gin_place.specs.declared.error.PlaceError.TheVariants as places
@@ -31,7 +31,7 @@ use Rattle.engine.specs.Db.{DbValue, state_of, IsUp}
 use Rattle.engine.specs.Going.{MetFault}
 use Rattle.engine.specs.Causes.{IsDown}
 use Rattle.engine.specs.Answers.{HasLogged, ChangesNothing}
-use Rattle.engine.specs.Cleaning.{Comes}
+use Rattle.engine.specs.Cleaning.{IsAt, Comes}
 use Rattle.engine.specs.declared.error.DbError.{DbError}
 use Rattle.engine.specs.declared.error.DbError.TheVariants.{StoreFull, LogFull, Down, DiskFault, BadPage, OutOfMemory}
 
@@ -79,11 +79,13 @@ module _ {D : Type 0} (device : Disk D) where
     sweeping : sweeps.IsCause device (IsBadIn device) left e f pass → IsWhy left e f pass
     freeing : CannotFree device left e f pass → IsWhy left e f pass
 
-  -- A vacuum that began here has logged records of work on the index, and came to where a step of it is refused so.
-  -- The log that is left is that one.
+  -- A vacuum that began here has logged records of work on the index, and its pass came to where a step of it is
+  -- refused so. The log that is left is that one.
   pub record Stops (f new : FramesValue D) (e : PlaceError) : Type 0 where
     pub frames : FramesValue D
     pub pass : Pass
+    pub at : IsAt f frames
+    pub is_pass : IsPassOf frames pass
     pub kinds : List ℕ
     pub index : AllByRecursion IsIndexKind kinds
     pub logs : (R : Log) → Stands device f R
@@ -98,14 +100,16 @@ module _ {D : Type 0} (device : Disk D) where
       → (floor : ℕ) → IsFloor f floor → (d : Doc) → IsDead (cut f.journal.state.records R) floor d → X P Q d)
 
   -- The cleanup found no page, and then the vacuum went on with what had no linked row: each document that was dead
-  -- when it began is gone or has a linked row, unless a step of these was refused.
+  -- when it began is gone or has a linked row, unless a step of these found no room in the log, or a bad page.
   pub record StopsFull (f new : FramesValue D) : Type 0 where
     pub mid : FramesValue D
+    pub at : IsAt f mid
     pub full : Comes device f mid places.StoreFull
     pub kinds : List ℕ
     pub taking : IsTakingOut kinds
     pub added : HasAdded device mid new kinds
-    pub rest : ((e : PlaceError) × Stops mid new e) ⊎ OfDead f new (λ P Q d. IsGone P Q d ⊎ HasRow Q d.item)
+    pub rest : Stops mid new places.LogFull ⊎ (((p : ℕ) × Stops mid new (places.BadPage p))
+        ⊎ OfDead f new (λ P Q d. IsGone P Q d ⊎ HasRow Q d.item))
 
 module _ {D : Type 0} (device : Disk D) (old new : DbValue D) where
   -- Whatever is answered: no document has changed, and only records of a vacuum were logged. The log is one that keeps

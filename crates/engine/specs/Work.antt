@@ -3,12 +3,13 @@ use Rattle.std.specs.Prelude.{◌≡◌, ℕ, ◌+◌, ◌-◌, ◌/◌, List, [
 use Rattle.std.specs.Prelude.{None, ◌⊎◌}
 use Rattle.std.specs.List.{AllByRecursion}
 use Rattle.page_types.specs.Numbers.{most_short, most_body}
+use Rattle.page_types.specs.Pages.{IsPage}
 use Rattle.page_types.specs.declared.page.Page.{Page}
 use Rattle.page_types.specs.declared.record.Kind.TheVariants as kind
 use Rattle.page_types.specs.declared.record.Record.{Record}
 use Rattle.core_state.specs.Allowed.{Sheet}
 use Rattle.core_state.specs.Documents.{Doc, name_of}
-use Rattle.buffer_frames.specs.Drawing.{images_of}
+use Rattle.buffer_frames.specs.Drawing.{images_of, made_sheets}
 use Rattle.ts_base.specs.Vectors.{Vector}
 use Rattle.ts_base.specs.Encoding.{vector_bytes}
 use Rattle.ts_base.specs.Keys.{Key, keys_of}
@@ -45,6 +46,11 @@ abbrev pub inserted_by : Option Vector → Name → List Document
 inserted_by None name = []
 inserted_by (Some v) name = document name v ∷ []
 
+-- the keys of the document that it inserts
+abbrev pub keys_by : Option Vector → List Key
+keys_by None = []
+keys_by (Some v) = keys_of v
+
 -- its commit, where the document that it inserts gets this name
 abbrev pub commit_of : Work → Name → Commit
 commit_of w name = record { deleted = deleted_by w.deletes; inserted = inserted_by w.inserts name }
@@ -55,9 +61,11 @@ commit_of w name = record { deleted = deleted_by w.deletes; inserted = inserted_
 abbrev pub parts_for : ℕ → ℕ
 parts_for bytes = if nat_le bytes most_short then 0 else (bytes + most_body - 1) / most_body
 
--- the record changes so many pages, and has an image of each
+-- the record changes so many pages, each of which has an encoding, and has an image of each as it leaves it
 abbrev pub HasImages : ℕ → Record → Type 0
-HasImages n r = (xs : List Sheet) × (length xs ≡ n) × (r.changes ≡ images_of xs)
+HasImages n r =
+    (xs : List Sheet) × (length xs ≡ n) × AllByRecursion (λ (x : Sheet). IsPage x.content) xs
+    × (r.changes ≡ images_of (made_sheets r xs))
 
 -- it begins transaction x; it commits it; it aborts it
 pub record IsBeginOf (x : ℕ) (r : Record) : Type 0 where
@@ -177,12 +185,15 @@ AreCommitted w rs =
     (x : ℕ) × (b : Record) × (e : Record) × (done : List Record) × IsBeginOf x b × IsWork w x done × IsCommitOf x e
     × (rs ≡ b ∷ (done ++ e ∷ []))
 
--- Those of a refused one: none; or its Begin, the work so far as it was done, and its Abort, unless
--- that was refused too.
-pub data AreRefused (w : Work) (rs : List Record) : Type 0 where
-  none : rs ≡ [] → AreRefused w rs
+-- Those of one that is aborted: none; or its Begin, the work so far as it was done, and its Abort.
+pub data AreAborted (w : Work) (rs : List Record) : Type 0 where
+  none : rs ≡ [] → AreAborted w rs
   aborted : (x : ℕ) (begun : List Record) (e : Record) → IsBegunWork w x begun → IsAbortOf x e
-      → rs ≡ begun ++ e ∷ [] → AreRefused w rs
+      → rs ≡ begun ++ e ∷ [] → AreAborted w rs
+
+-- Those of a refused one: it is aborted, unless the Abort was refused too.
+pub data AreRefused (w : Work) (rs : List Record) : Type 0 where
+  ended : AreAborted w rs → AreRefused w rs
   left : (x : ℕ) → IsBegunWork w x rs → AreRefused w rs
 
 -- After these records of a statement the next of its work is this one: its Begin, one that changes

@@ -188,12 +188,14 @@ impl<D: Disk> Db<D> {
     ghost use Rattle.engine.specs.Finding.{document, Name as NameValue};
     ghost use Rattle.engine.specs.Work.{IsRowOf, IsRowPageOf, IsLinkOf, AreIndexing, AreStored};
     ghost use Rattle.engine.specs.Going.{Goes, FaultIsTold};
+    ghost use Rattle.engine.specs.Places.{HasNoRoomOnList};
     ghost use Rattle.engine.specs.Answers.{MeetsNoBadPage};
+    ghost use Rattle.engine.specs.Causes.{AreDue};
     ghost use Rattle.engine.specs.Inner.Changing.{doc_of, MayLogStep, LogsStep, CannotLog};
     ghost use Rattle.engine.specs.Inner.Parts.{IsRunning, HasChanged, HasRows, CarriesOwn, KeepsWork, with_inserted};
-    ghost use Rattle.engine.specs.Inner.Indexing.{IsNextPage, last_then, end_sheets, HasNoRoomOnList};
+    ghost use Rattle.engine.specs.Inner.Indexing.{IsNextPage, last_then, end_sheets};
     ghost use Rattle.engine.specs.Inner.Indexing.{CannotAddRow, CannotPutRowPage, CannotPutRows, CannotLink};
-    ghost use Rattle.engine.specs.Inner.Indexing.{CannotIndex, CannotStore};
+    ghost use Rattle.engine.specs.Inner.Indexing.{IsIndexedBy, CannotIndex, CannotStore};
 
     /// Adds a row of a document's keys to the last page of the pending list; false where there is none,
     /// or it has no room.
@@ -512,6 +514,8 @@ impl<D: Disk> Db<D> {
         ensures goes { OnOk result ((rs : List Record)
             × AreIndexing work.xid (doc_of name) (map (λ key. key.items) keys.now) rs
             × Goes D.Disk self.old self.new rs) }
+        ensures rows { OnOk result (IsIndexedBy D.Disk self.old self.new work.xid (doc_of name)
+            (map (λ key. key.items) keys.now)) }
         ensures indexed { (v : Vector) (c : Commit) → map (λ key. key.items) keys.now ≡ keys_of v
             → c.inserted ≡ []
             → HasRows D.Disk self.old pass.old work.xid (doc_of name) v [] 0 c.deleted
@@ -559,6 +563,7 @@ impl<D: Disk> Db<D> {
             HasChanged D.Disk self.new pass.new work.xid (with_inserted (document n v) c)) }
         ensures goes { OnOk result ((rs : List Record)
             × AreStored bytes.now (map (λ key. key.items) keys.now) work.xid rs
+            × AreDue D.Disk self.old (map (λ key. key.items) keys.now) rs
             × Goes D.Disk self.old self.new rs) }
         ensures keeps { KeepsWork pass.old pass.new }
         ensures fault { FaultIsTold D.Disk self.old self.new result }

@@ -175,13 +175,13 @@ impl<D: Disk> Db<D> {
 
     /// Aborts a transaction whose statement is refused so. Where the device has failed, or the Abort is
     /// refused, it runs until the next opening. The answer of the statement: this refusal, or that the
-    /// device failed as the Abort was logged.
+    /// device failed or memory ran out as the Abort was logged.
     fn abort(&mut self, pass: &mut Pass, work: Transaction, refusal: DbError) -> DbError
         requires { IsRunning D.Disk self.old pass.old work }
         ensures pass { IsPassOf self.new.frames pass.new }
         ensures xid { pass.new.xid ≡ None }
         ensures held { pass.new.held ≡ 0 }
-        ensures gone { GivesUp D.Disk self.old self.new work.xid }
+        ensures gone { GivesUp D.Disk self.old self.new work.xid result }
         ensures keeps { KeepsRoom pass.old pass.new }
         ensures fault { TellsRefusal D.Disk self.old self.new refusal result }
     {
@@ -195,6 +195,7 @@ impl<D: Disk> Db<D> {
                 pass.give_up();
                 match error {
                     DbError::DiskFault => error,
+                    DbError::OutOfMemory => error,
                     _ => refusal,
                 }
             }
@@ -211,7 +212,7 @@ impl<D: Disk> Db<D> {
     ) -> DbError
         requires { IsRunning D.Disk self.old pass.old work }
         ensures session { IsResting self.new pass.new }
-        ensures gone { GivesUp D.Disk self.old self.new work.xid }
+        ensures gone { GivesUp D.Disk self.old self.new work.xid result }
         ensures keeps { KeepsRoom pass.old pass.new }
         ensures fault { TellsRefusal D.Disk self.old self.new refusal result }
     {

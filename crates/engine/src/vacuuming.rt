@@ -4,8 +4,8 @@ ghost use Rattle.wal.specs.Waiting.{down_of};
 ghost use Rattle.buffer_frames.specs.Passes.{IsPassOf};
 ghost use Rattle.gin_place.specs.Placing.{HasRight};
 ghost use Rattle.gin_place.specs.Faults.{MetNoFault, FaultBy};
-ghost use Rattle.gin_place.specs.declared.error.PlaceError.{PlaceError as PlaceErrorValue};
-ghost use Rattle.gin_place.specs.declared.error.PlaceError.TheVariants.{StoreFull, DiskFault};
+ghost use Rattle.gin_place.specs.declared.error.PlaceError.TheVariants.{StoreFull, LogFull, DiskFault, BadPage};
+ghost use Rattle.gin_place.specs.declared.error.PlaceError.TheVariants.{OutOfMemory};
 ghost use Rattle.gin_vacuum.specs.Vacuum.{AreDead, HaveDeadHeads};
 ghost use Rattle.engine.specs.Vacuuming.{IsTakingOut, IsVacuum, IsIndexKind, Stops};
 ghost use Rattle.engine.specs.Inner.Cleaned.{WorksThrough, AreGoneSince, NeverBad};
@@ -91,19 +91,21 @@ fn is_full(error: PlaceError) -> bool
     }
 }
 
-/// That no page was left, or that the device failed since.
+/// That no page was left; or that since then the device failed, or memory ran out.
 fn full_or_fault(taken: Result<(), PlaceError>) -> PlaceError
-    ensures either { (result ≡ StoreFull) ⊎ (result ≡ DiskFault) }
+    ensures either { (result ≡ StoreFull) ⊎ ((result ≡ DiskFault) ⊎ (result ≡ OutOfMemory)) }
     ensures fault { (result ≡ DiskFault) ↔ (taken ≡ Err DiskFault) }
+    ensures memory { (result ≡ OutOfMemory) ↔ (taken ≡ Err OutOfMemory) }
 {
     match taken {
         Err(PlaceError::DiskFault) => PlaceError::DiskFault,
+        Err(PlaceError::OutOfMemory) => PlaceError::OutOfMemory,
         _ => PlaceError::StoreFull,
     }
 }
 
-/// Takes out what it can where the list could not be cleaned for want of a page, which is answered; but a
-/// fault of the device is answered where there is one.
+/// Takes out what it can where the list could not be cleaned for want of a page, which is answered; but where
+/// the device fails or memory runs out, that is.
 fn take_rest<D: Disk>(
     alloc: Global,
     frames: &mut Frames<D>,
@@ -120,9 +122,10 @@ fn take_rest<D: Disk>(
         × WorksThrough D.Disk IsIndexKind frames.old pass.old frames.new pass.new kinds }
     ensures work { pass.new.work ≡ pass.old.work }
     ensures none_held { pass.new.held ≡ 0 }
-    ensures either { (result ≡ StoreFull) ⊎ (result ≡ DiskFault) }
-    ensures rest { ((e : PlaceErrorValue) × Stops D.Disk frames.old frames.new e)
-        ⊎ LeaveLinked D.Disk pass.old.seen dead.now frames.new }
+    ensures either { (result ≡ StoreFull) ⊎ ((result ≡ DiskFault) ⊎ (result ≡ OutOfMemory)) }
+    ensures rest { result ≡ StoreFull → Stops D.Disk frames.old frames.new LogFull
+        ⊎ (((p : ℕ) × Stops D.Disk frames.old frames.new (BadPage p))
+        ⊎ LeaveLinked D.Disk pass.old.seen dead.now frames.new) }
     ensures fault { FaultBy D.Disk frames.old frames.new result }
 {
     let taken = take_unlinked(alloc, frames, pass, dead);

@@ -9,9 +9,9 @@ use Rattle.page_types.specs.declared.record.Record.{Record}
 use Rattle.buffer_frames.specs.declared.pass.Pass.{Pass}
 use Rattle.engine.specs.Finding.{Name, Commit, History, IsInSnapshot}
 use Rattle.engine.specs.Standing.{StandsFor}
-use Rattle.engine.specs.Work.{Work, IsWork, IsWorkSoFar, AreMarks, deleted_by}
+use Rattle.engine.specs.Work.{Work, keys_by, IsWork, IsWorkSoFar, AreMarks, deleted_by}
 use Rattle.engine.specs.Going.{Goes, MetNoFault}
-use Rattle.engine.specs.Causes.{MayBeDeleted}
+use Rattle.engine.specs.Causes.{MayBeDeleted, AreDue}
 use Rattle.engine.specs.Db.{DbValue, IsUp}
 use Rattle.engine.specs.Inner.Parts.{HasChanged, Later, CannotMark}
 use Rattle.engine.specs.Inner.Indexing.{CannotStore}
@@ -38,6 +38,7 @@ module _ {D : Type 0} (device : Disk D) where
   pub record HasDone (old new : DbValue D) (pass : Pass) (t : Transaction) (w : Work) (c : Commit) : Type 0 where
     pub records : List Record
     pub are_work : IsWork w t.xid records
+    pub due : AreDue device old (keys_by w.inserts) records
     pub goes : Goes device old new records
     pub there : MayMark old t w.deletes
     pub changed : HasChanged device new pass t.xid c

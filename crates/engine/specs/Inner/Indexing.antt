@@ -21,13 +21,13 @@ use Rattle.core_state.specs.Documents.{Doc, item_at}
 use Rattle.core_state.specs.Steps.{sheet}
 use Rattle.doc_heap.specs.HeapPages.{head_on, ChangesSlot}
 use Rattle.pending_list.specs.Packing.{AreKeys, ArePacked}
-use Rattle.pending_list.specs.Adding.{IsPendingPage, with_row, HasNoRoom}
+use Rattle.pending_list.specs.Adding.{IsPendingPage, with_row}
 use Rattle.buffer_frames.specs.Drawing.{IsSheet}
 use Rattle.engine.specs.Work.{AreIndexing, AreStored, IsRowPageOf, IsRowOf, IsLinkOf}
 use Rattle.engine.specs.Going.{Goes}
-use Rattle.engine.specs.Places.{Lies}
+use Rattle.engine.specs.Places.{Lies, HasNoRoomOnList}
 use Rattle.engine.specs.Causes.{IsDown, IsStoreFull, HasNoRoomFor, IsNone, IsBadPage, IsRows}
-use Rattle.engine.specs.Causes.{IsBadList, HasHeadIn}
+use Rattle.engine.specs.Causes.{IsBadList, HasHeadIn, IsDue}
 use Rattle.engine.specs.Db.{DbValue}
 use Rattle.engine.specs.Inner.Changing.{IsNoNewPage, doc_of}
 use Rattle.engine.specs.Inner.Parts.{Later, NeedsPageFor}
@@ -142,13 +142,6 @@ last_then last new = cond (last == 0) new last
 
 -- ── refusals ──
 
--- by the pages that lie in memory the pending list has no last page, or that has no room for such a row
-pub data HasNoRoomOnList {D : Type 0} (s : DbValue D) (item : ℕ) (keys : List Key) : Type 0 where
-  none : (meta : Page) (first pages : ℕ) → Lies s 0 meta → meta.body ≡ body.Meta first 0 pages
-      → HasNoRoomOnList s item keys
-  full : (meta last : Page) (first p pages : ℕ) → Lies s 0 meta → meta.body ≡ body.Meta first p pages
-      → p ≢ 0 → Lies s p last → HasNoRoom last item keys → HasNoRoomOnList s item keys
-
 module _ {D : Type 0} (device : Disk D) where
   -- why the end of the pending list isn't held
   abbrev pub CannotHoldList : DbValue D → DbError → Type 0
@@ -238,18 +231,31 @@ module _ {D : Type 0} (device : Disk D) where
     pub goes : Goes device old store done
     pub why : Why store next
 
+  -- the keys of a document came to the pending list as one row; or on pages, where the list had no room for one row
+  pub data IsIndexedBy (old new : DbValue D) (x : ℕ) (d : Doc) (keys : List Key) : Type 0 where
+    row : (r : Record) → IsRowOf x d r → Goes device old new (r ∷ []) → IsIndexedBy old new x d keys
+    pages : HasNoRoomOnList old d.item keys → (rs : List Record) → AreIndexing x d keys rs → Goes device old new rs
+        → IsIndexedBy old new x d keys
+
   -- a record of this kind, which indexes a document, needs a new page
   abbrev pub NeedsRowPage : Kind → Type 0
   NeedsRowPage (kind.PutPending item serial) = ⊤
   NeedsRowPage k = ⊥
 
+  -- a record of this kind may come next: pages of rows come only where the pending list has no room for one row
+  abbrev pub IsDueFrom : DbValue D → List Key → Kind → Type 0
+  IsDueFrom old keys (kind.PutPending item serial) = HasNoRoomOnList old item keys
+  IsDueFrom old keys (kind.LinkPending item serial) = HasNoRoomOnList old item keys
+  IsDueFrom old keys k = ⊤
+
   -- why a document isn't indexed
   abbrev pub CannotIndex : DbValue D → ℕ → Name → List Key → DbError → Type 0
   CannotIndex old x name keys (Down fault) = IsDown old fault
   CannotIndex old x name keys StoreFull =
-      Indexes old x (doc_of name) keys (λ (s : DbValue D) (r : Record). NeedsRowPage r.kind × IsStoreFull s)
+      Indexes old x (doc_of name) keys
+      (λ (s : DbValue D) (r : Record). IsDueFrom old keys r.kind × NeedsRowPage r.kind × IsStoreFull s)
   CannotIndex old x name keys LogFull =
-      Indexes old x (doc_of name) keys (λ (s : DbValue D) (r : Record). HasNoRoomFor s r)
+      Indexes old x (doc_of name) keys (λ (s : DbValue D) (r : Record). IsDueFrom old keys r.kind × HasNoRoomFor s r)
   CannotIndex old x name keys (BadPage p) =
       Indexes old x (doc_of name) keys (λ (s : DbValue D) (r : Record). IsBadRowPage s name p ⊎ IsBadList s p)
   CannotIndex old x name keys DiskFault = ⊤
@@ -276,9 +282,10 @@ module _ {D : Type 0} (device : Disk D) where
   CannotStore old x bytes keys (Down fault) = IsDown old fault
   CannotStore old x bytes keys StoreFull =
       Stores old x bytes keys (λ (s : DbValue D) (done : List Record) (r : Record).
-      NeedsPageAt bytes x s r.kind × IsStoreFull s)
+      IsDue device old keys done r.kind × NeedsPageAt bytes x s r.kind × IsStoreFull s)
   CannotStore old x bytes keys LogFull =
-      Stores old x bytes keys (λ (s : DbValue D) (done : List Record) (r : Record). HasNoRoomFor s r)
+      Stores old x bytes keys (λ (s : DbValue D) (done : List Record) (r : Record).
+      IsDue device old keys done r.kind × HasNoRoomFor s r)
   CannotStore old x bytes keys (BadPage p) =
       Stores old x bytes keys (λ (s : DbValue D) (done : List Record) (r : Record).
       IsBadPage s (λ (name : Name). ⊥) done p ⊎ IsBadList s p)

@@ -154,13 +154,24 @@ module _ {D : Type 0} (device : Disk D) where
 
   -- ── refusals ──
 
-  -- the transaction was given up: its Abort was logged, or was refused
-  abbrev pub GivesUp : DbValue D → DbValue D → ℕ → Type 0
-  GivesUp old new x = Goes device old new [] ⊎ ((e : Record) × IsAbortOf x e × Goes device old new (e ∷ []))
-
   -- after some steps that log nothing
   abbrev pub Later : DbValue D → (DbValue D → Type 0) → Type 0
   Later old Why = (s : DbValue D) × Goes device old s [] × Why s
+
+  -- Why the Abort of a transaction is refused, whose statement is answered so: the device failed, or memory ran out,
+  -- as is answered then; the log has no room for it; or it was down.
+  pub data IsLeft (old new : DbValue D) (x : ℕ) (answer : DbError) : Type 0 where
+    failed : answer ≡ DiskFault → IsLeft old new x answer
+    memory : answer ≡ OutOfMemory → IsLeft old new x answer
+    full : (s : DbValue D) (r : Record) → Goes device old s [] → Goes device s new [] → IsAbortOf x r
+        → HasNoRoomFor s r → IsLeft old new x answer
+    down : (fault : ℕ) → IsDown old fault → IsLeft old new x answer
+
+  -- the transaction was given up: its Abort was logged, or was refused
+  abbrev pub GivesUp : DbValue D → DbValue D → ℕ → DbError → Type 0
+  GivesUp old new x answer =
+      (Goes device old new [] × IsLeft old new x answer)
+      ⊎ ((e : Record) × IsAbortOf x e × Goes device old new (e ∷ []))
 
   -- why a statement doesn't begin
   abbrev pub CannotBegin : DbValue D → DbValue D → Option Name → DbError → Type 0
@@ -245,17 +256,18 @@ module _ {D : Type 0} (device : Disk D) where
   -- its Commit was flushed
   pub data IsNotEnded (old new : DbValue D) (x : ℕ) : DbError → Type 0 where
     full : Later old (λ (s : DbValue D). (e : Record) × work.IsCommitOf x e × HasNoRoomFor s e)
-        → GivesUp old new x → IsNotEnded old new x LogFull
-    memory : GivesUp old new x → IsNotEnded old new x OutOfMemory
-    failed : GivesUp old new x → IsNotEnded old new x DiskFault
+        → GivesUp old new x LogFull → IsNotEnded old new x LogFull
+    memory : GivesUp old new x OutOfMemory → IsNotEnded old new x OutOfMemory
+    failed : GivesUp old new x DiskFault → IsNotEnded old new x DiskFault
     flush : (e : Record) → work.IsCommitOf x e → Goes device old new (e ∷ [])
         → IsNotEnded old new x DiskFault
 
-  -- a statement that is refused so answers this: the refusal, or that the device failed as it was given up
-  abbrev pub TellsRefusal : DbValue D → DbValue D → DbError → DbError → Type 0
-  TellsRefusal old new refusal e =
-      ((e ≡ refusal) × MetNoFault device old new × RestsAtFault old new refusal)
-      ⊎ ((e ≡ DiskFault) × MetFault device old new)
+  -- a statement that is refused so answers this: the refusal, or that the device failed or memory ran out as it was
+  -- given up
+  pub data TellsRefusal (old new : DbValue D) (refusal : DbError) : DbError → Type 0 where
+    same : MetNoFault device old new → RestsAtFault old new refusal → TellsRefusal old new refusal refusal
+    failed : MetFault device old new → TellsRefusal old new refusal DiskFault
+    memory : refusal ≢ DiskFault → MetNoFault device old new → TellsRefusal old new refusal OutOfMemory
 
   -- how a transaction whose work was answered so has ended
   abbrev pub EndsAs : {T : Type 0} → DbValue D → DbValue D → Pass → ℕ → Result T DbError → Result T DbError
@@ -269,4 +281,4 @@ module _ {D : Type 0} (device : Disk D) where
       × (((e ≡ DiskFault) × MetFault device old new) ⊎ ((e ≢ DiskFault) × MetNoFault device old new))
   EndsAs old new pass x (Err refusal) (Ok given) = ⊥
   EndsAs old new pass x (Err refusal) (Err e) =
-      GivesUp old new x × TellsRefusal old new refusal e
+      GivesUp old new x e × TellsRefusal old new refusal e

@@ -9,6 +9,7 @@ use Rattle.gin_place.proofs.Faults.{fine_then, told_then}
 use Rattle.engine.specs.Inner.Cleaned.{EndsBy, NeverBad}
 use Rattle.engine.proofs.Cleanups.{goes_of, through_reads, through_in_turn}
 use Rattle.engine.proofs.ReadSteps.{if_err}
+use Rattle.engine.proofs.AtWork.{at_works}
 use Rattle.engine.proofs.Sweeping.{on_ok, gone_earlier, ends_by, ends_before, never_by, never_before}
 use Rattle.engine.proofs.cleaning.clean_list.Goals as goal
 
@@ -91,7 +92,8 @@ pub returns-clause-cause : goal.returns-clause-cause
 returns-clause-cause g c =
     if_err c.step_to_end.result
     (λ e. ends_before g.D.Disk c.args.frames.now c.begin.new.frames c.step_to_end.new.frames e
-    c.begin.ensures.reads.works.added)
+    (at_works g.D.Disk c.args.frames.now c.begin.new.frames c.args.pass.now c.begin.new.pass []
+    c.begin.ensures.reads.works) c.begin.ensures.reads.works.added)
     c.step_to_end.ensures.cause
 
 pub returns-in_err-cleanup-clause-lawful : goal.returns-in_err-cleanup-clause-lawful

@@ -8,6 +8,7 @@ use Rattle.gin_place.proofs.Faults.{fine_then, told_then}
 use Rattle.engine.specs.Inner.Cleaned.{AreGoneSince}
 use Rattle.engine.specs.Inner.Vacuumed.{AreKindsOf}
 use Rattle.engine.proofs.Cleanups.{right_through, goes_right, through_in_turn}
+use Rattle.engine.proofs.AtWork.{at_right}
 use Rattle.engine.proofs.Maintained.{quiet_right, vacuumed_around, ends_around}
 use Rattle.engine.proofs.Sweeping.{behind_then, never_before, right_fine, fine_right}
 use Rattle.engine.proofs.Sweeping.{told_right, on_ok}
@@ -119,7 +120,8 @@ returns-clause-cause g c =
     let f1 = c.claim_work.new.self in
     if_err c.work_on-worked.result
     (ends_around g.D.Disk f f1 c.work_on-worked.new.frames c.give_back_work.new.self c.args.vacuums
-    c.claim_work.ensures.added (quiet_right f f1 _ c.claim_work.ensures.claimed.frames) c.give_back_work.ensures.added)
+    (at_right f f1 _ c.claim_work.ensures.claimed.frames) c.claim_work.ensures.added
+    (quiet_right f f1 _ c.claim_work.ensures.claimed.frames) c.give_back_work.ensures.added)
     c.work_on-worked.ensures.cause
 
 pub returns-clause-lawful : goal.returns-clause-lawful

@@ -11,6 +11,7 @@ use Rattle.engine.specs.Inner.Cleaned.{NeverBad}
 use Rattle.engine.specs.Inner.Vacuumed.{EndsTaking}
 use Rattle.engine.proofs.Cleanups.{through_in_turn}
 use Rattle.engine.proofs.ReadSteps.{if_err}
+use Rattle.engine.proofs.AtWork.{at_vacuums}
 use Rattle.engine.proofs.Stopped.{through_vacuum, swept_alone, swept_freed, sweep_cause, free_cause, taking_before}
 use Rattle.engine.proofs.Sweeping.{on_ok, if_err_both, never_as, never_before}
 use Rattle.engine.proofs.Vacuumed.{out_of, taken_by}
@@ -110,8 +111,8 @@ returns-clause-cause g c =
     let w = c.sweep.ensures.works in
     let t = through_vacuum g.D.Disk c.args.frames.now c.sweep.new.frames c.args.pass.now c.sweep.new.pass w.0 w.2 in
     if_err_both c.free_slots.result
-    (λ e told why. taking_before g.D.Disk c.args.frames.now c.sweep.new.frames c.free_slots.new.frames w.0 e t.added
-    t.are
+    (λ e told why. taking_before g.D.Disk c.args.frames.now c.sweep.new.frames c.free_slots.new.frames w.0 e
+    (at_vacuums g.D.Disk c.args.frames.now c.sweep.new.frames c.args.pass.now c.sweep.new.pass w.0 w.2) t.added t.are
     (free_cause g.D.Disk c.sweep.new.frames c.free_slots.new.frames c.sweep.new.pass e
     (c.in_ok-sweep.ensures.fine.down ∙ c.requires.up) told why))
     c.free_slots.ensures.fault c.free_slots.ensures.cause

@@ -11,6 +11,7 @@ use Rattle.engine.specs.Inner.Vacuumed.{EndsTaking}
 use Rattle.engine.proofs.Cleanups.{goes_of, through_reads, through_in_turn}
 use Rattle.engine.proofs.ReadSteps.{if_err}
 use Rattle.engine.proofs.Since.{sees_all}
+use Rattle.engine.proofs.AtWork.{at_works}
 use Rattle.engine.proofs.Stopped.{nothing_taken, list_cause, taking_before, kinds_taken}
 use Rattle.engine.proofs.Sweeping.{on_ok, never_by, never_before}
 use Rattle.engine.proofs.Vacuumed.{linked_by}
@@ -109,7 +110,8 @@ pub returns-clause-cause : goal.returns-clause-cause
 returns-clause-cause g c =
     if_err c.take_out.result
     (λ e. taking_before g.D.Disk c.args.frames.now c.without_rows.new.frames c.take_out.new.frames [] e
-    (c.without_rows.ensures.reads.works).added tt)
+    (at_works g.D.Disk c.args.frames.now c.without_rows.new.frames c.args.pass.now c.without_rows.new.pass []
+    c.without_rows.ensures.reads.works) (c.without_rows.ensures.reads.works).added tt)
     c.take_out.ensures.cause
 
 pub returns-clause-lawful : goal.returns-clause-lawful

@@ -11,6 +11,7 @@ use Rattle.engine.specs.Inner.Vacuumed.{EndsVacuum}
 use Rattle.engine.specs.Vacuuming.{IsVacuum}
 use Rattle.engine.proofs.Cleanups.{goes_of, goes_then, through_as, through_reads, through_in_turn, index_kinds}
 use Rattle.engine.proofs.ReadSteps.{if_err}
+use Rattle.engine.proofs.AtWork.{at_works}
 use Rattle.engine.proofs.Stopped.{nothing_taken, vacuumed, find_cause, vacuum_cleaning, fine_full, comes_full}
 use Rattle.engine.proofs.Stopped.{full_ends, full_lawful}
 use Rattle.engine.proofs.Sweeping.{on_ok, never_by, never_before}
@@ -292,9 +293,9 @@ returns-then-is_full-clause-cause g c =
     let full = c.is_full.ensures.0 c.if-is_full.true in
     let t = c.take_rest.ensures in
     full_ends g.D.Disk f c.take_rest.new.frames c.take_rest.result t.either
-    (full_by g.D.Disk f f1 p p1 c.requires.pass c.requires.right c.requires.all w f2 p2 k.through.0 k.through.1 k.work
-    _ found c.take_rest.new.frames t.through.0 t.through.1 t.through.2.added
-    (comes_full g.D.Disk f1 f2 c.in-Err.error full c.in-Err.ensures.cause) t.rest)
+    (λ is. full_by g.D.Disk f f1 p p1 c.requires.pass c.requires.right c.requires.all w f2 p2 k.through.0 k.through.1
+    k.work _ found c.take_rest.new.frames t.through.0 t.through.1 t.through.2.added
+    (comes_full g.D.Disk f1 f2 c.in-Err.error full c.in-Err.ensures.cause) (t.rest is))
 
 pub returns-then-is_full-clause-lawful : goal.returns-then-is_full-clause-lawful
 returns-then-is_full-clause-lawful g c =
@@ -354,7 +355,7 @@ returns-clause-cause g c =
     let w = c.find_dead.ensures.reads.works in
     let k = c.clean_list.ensures in
     let found = c.in_ok-dead.ensures.dead in
-    vacuum_cleaning g.D.Disk f f1 f2 c.in-Err.error w.added
+    vacuum_cleaning g.D.Disk f f1 f2 c.in-Err.error (at_works g.D.Disk f f1 p p1 [] w) w.added
     (λ full. let z : false ≡ true = sym c.if-is_full.false ∙ c.is_full.ensures.1 full in let y : ⊥ = cc in y)
     c.in-Err.ensures.cause
 

@@ -9,7 +9,8 @@ use Rattle.engine.specs.Answers.{MeetsNoBadPage}
 use Rattle.engine.specs.Going.{Goes}
 use Rattle.engine.specs.Places.{Lies}
 use Rattle.engine.specs.Inner.Changing.{ChangesDocument, doc_of}
-use Rattle.engine.specs.Inner.Indexing.{CannotAddRow, HasNoRoomOnList, NamesEnd, end_sheets}
+use Rattle.engine.specs.Places.{HasNoRoomOnList}
+use Rattle.engine.specs.Inner.Indexing.{CannotAddRow, NamesEnd, end_sheets}
 use Rattle.engine.specs.declared.error.DbError.{DbError}
 use Rattle.engine.proofs.Carrying.{carries_on, holds_none, keeps_on}
 use Rattle.engine.proofs.AddedRows.{links_then, named_last, named_none, named_low, is_none, row_may_log, row_record}

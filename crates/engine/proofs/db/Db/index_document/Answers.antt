@@ -12,7 +12,7 @@ use Rattle.engine.specs.Answers.{MeetsNoBadPage}
 use Rattle.engine.specs.Going.{Goes}
 use Rattle.engine.specs.Work.{IsLinkOf, AreIndexing}
 use Rattle.engine.specs.Inner.Changing.{doc_of}
-use Rattle.engine.specs.Inner.Indexing.{CannotIndex, CannotLink}
+use Rattle.engine.specs.Inner.Indexing.{CannotIndex, CannotLink, IsIndexedBy}
 use Rattle.engine.specs.declared.error.DbError.{DbError}
 use Rattle.engine.proofs.Choosing.{at_err}
 use Rattle.engine.proofs.DocumentKeys.{packed_few}
@@ -49,6 +49,11 @@ pub returns-then-added-clause-goes : goal.returns-then-added-clause-goes
 returns-then-added-clause-goes g c =
     let r = c.in_ok-added.ensures.goes c.if-added.true in
     (r.0 ∷ [], AreIndexing.row r.0 r.1 refl, r.2)
+
+pub returns-then-added-clause-rows : goal.returns-then-added-clause-rows
+returns-then-added-clause-rows g c =
+    let r = c.in_ok-added.ensures.goes c.if-added.true in
+    IsIndexedBy.row r.0 r.1 r.2
 
 pub returns-then-added-clause-indexed : goal.returns-then-added-clause-indexed
 returns-then-added-clause-indexed g c =
@@ -122,7 +127,8 @@ returns-in_err-last-clause-cause g c =
     let Why = CannotIndex g.D.Disk c.args.self.now c.args.work.xid c.args.name keys in
     subst (λ (r : Result (Unit {0}) DbError). IfErr r Why) (sym p.1) (subst Why (sym p.2)
     (pages_cause g.D.Disk c.args.self.now c.args.work.xid c.args.name keys c.add_row_to_list.new.self pages pack
-    (c.in_ok-added.ensures.still c.if-added.false) (c.in_ok-added.ensures.fault).down _ _ refl
+    (c.in_ok-added.ensures.full c.if-added.false) (c.in_ok-added.ensures.still c.if-added.false)
+    (c.in_ok-added.ensures.fault).down _ _ refl
     c.in_err-last.ensures.cause))
 
 pub returns-in_err-last-clause-lawful : goal.returns-in_err-last-clause-lawful
@@ -180,6 +186,23 @@ returns-clause-goes g c =
       goes_on g.D.Disk (goes_on g.D.Disk (c.in_ok-added.ensures.still c.if-added.false) done.3) r.2,
     )) c.link_rows.ensures.goes
 
+pub returns-clause-rows : goal.returns-clause-rows
+returns-clause-rows g c =
+    let keys : List Key = map (λ (key : Vec ℕ Global). key.items) c.args.keys.now in
+    let pages : List Page = c.in_ok-pages.pages.items in
+    let pack : ArePacked (doc_of c.args.name).item keys pages =
+    subst (λ (i : ℕ). ArePacked i keys pages) c.item_of.ensures c.in_ok-pages.ensures.packed in
+    let done = c.in_ok-last.ensures.goes in
+    linked_all
+    ((r : Record) × IsLinkOf c.args.work.xid (doc_of c.args.name) r
+    × Goes g.D.Disk c.put_rows.new.self c.link_rows.new.self (r ∷ []))
+    (IsIndexedBy g.D.Disk c.args.self.now c.link_rows.new.self c.args.work.xid (doc_of c.args.name) keys)
+    c.link_rows.result
+    (λ r. IsIndexedBy.pages (c.in_ok-added.ensures.full c.if-added.false) (done.0 ++ r.0 ∷ [])
+    (indexing_all c.args.work.xid (doc_of c.args.name) keys pages pack done.0 done.1 r.0 done.2 r.1)
+    (goes_on g.D.Disk (goes_on g.D.Disk (c.in_ok-added.ensures.still c.if-added.false) done.3) r.2))
+    c.link_rows.ensures.goes
+
 pub returns-clause-indexed : goal.returns-clause-indexed
 returns-clause-indexed g c =
     let keys : List Key = map (λ (key : Vec ℕ Global). key.items) c.args.keys.now in
@@ -226,9 +249,9 @@ returns-clause-cause g c =
     let done = c.in_ok-last.ensures.goes in
     at_err c.link_rows.result (CannotLink g.D.Disk c.put_rows.new.self c.args.work.xid c.args.name)
     (CannotIndex g.D.Disk c.args.self.now c.args.work.xid c.args.name keys)
-    (link_cause g.D.Disk c.args.self.now c.args.work.xid c.args.name keys c.add_row_to_list.new.self pages pack before
-    (c.in_ok-added.ensures.fault).down c.put_rows.new.self done.0 done.1 done.2 done.3
-    (c.in_ok-last.ensures.fault).down) c.link_rows.ensures.cause
+    (link_cause g.D.Disk c.args.self.now c.args.work.xid c.args.name keys c.add_row_to_list.new.self pages pack
+    (c.in_ok-added.ensures.full c.if-added.false) before (c.in_ok-added.ensures.fault).down c.put_rows.new.self done.0
+    done.1 done.2 done.3 (c.in_ok-last.ensures.fault).down) c.link_rows.ensures.cause
 
 pub returns-clause-lawful : goal.returns-clause-lawful
 returns-clause-lawful g c =

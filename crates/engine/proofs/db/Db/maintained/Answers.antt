@@ -19,6 +19,7 @@ use Rattle.engine.specs.declared.error.DbError.{DbError}
 use Rattle.engine.specs.Inner.Cleaned.{IndexGoesOn}
 use Rattle.engine.specs.Inner.Vacuumed.{AreKindsOf, HasMaintained}
 use Rattle.engine.proofs.Cleanups.{up_by_none, up_as, up_of_frames, added_by_none, goes_by_none}
+use Rattle.engine.proofs.AtWork.{at_goes}
 use Rattle.engine.proofs.Maintained.{quiet_pin, pins_around, given_up, vacuumed_around, ends_around, no_kinds, down_as}
 use Rattle.engine.proofs.Maintained.{refused_as, done_as}
 use Rattle.engine.proofs.Starting.{up_at_pin}
@@ -354,7 +355,7 @@ returns-in_err-worked-clause-answered g c =
     subst (λ (r : Result ⊤ DbError). HasMaintained g.D.Disk c.args.vacuums c.args.self.now b r) (sym (q.1 ∙ ap Err q.2))
     (refused_as g.D.Disk ⊤ c.args.vacuums c.args.self.now b w up
     (ends_around g.D.Disk c.args.self.now.frames m.frames s.frames b.frames c.args.vacuums
-    (added_by_none g.D.Disk c.args.self.now m begins)
+    (at_goes g.D.Disk c.args.self.now m begins) (added_by_none g.D.Disk c.args.self.now m begins)
     (quiet_pin c.args.self.now.frames m.frames c.pin.new.pass _ old_pinned same)
     (added_by_none g.D.Disk s b ends) w c.in_err-worked.ensures.cause) told)
 

@@ -124,7 +124,7 @@ returns-in_err-serial-in-Ok-clause-cause g c =
     let is : IsPlaceOf x d next = subst (λ (s : Step). IsPlaceOf x d (next_record m.frames.journal s))
     (sym c.in-Ok.ensures)
     (places_it g.D.Disk a x bytes m c.number-number.result c.in_ok-held.field-0.slot serial c.in_ok-held.field-0.page
-    refl) in
+    c.in_ok-held.ensures.is_page refl) in
     subst (λ (r : Result Name DbError). IfErr r (CannotPlace g.D.Disk a x bytes)) (sym p.1)
     (subst (CannotPlace g.D.Disk a x bytes) (sym p.2)
     (place_cause g.D.Disk a x bytes m d next _ c.choose_page.ensures.goes (c.in_ok-held.ensures.fault).down is
@@ -169,7 +169,7 @@ returns-in-Ok-clause-goes g c =
       next_record m.frames.journal c.in-Ok.step,
       subst (λ (s : Step). IsPlaceOf x (doc_of name) (next_record m.frames.journal s)) (sym c.in-Ok.ensures)
           (places_it g.D.Disk c.args.self.now x c.args.bytes.now m name.page name.slot name.serial
-          c.in_ok-held.field-0.page drawn),
+          c.in_ok-held.field-0.page c.in_ok-held.ensures.is_page drawn),
       goes_on g.D.Disk c.choose_page.ensures.goes (one_record g.D.Disk (c.in_ok-serial-in-Ok.ensures.logged).one),
     )
 

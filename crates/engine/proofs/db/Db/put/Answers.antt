@@ -150,7 +150,7 @@ returns-clause-goes g c =
     let puts = c.in_ok-name.ensures.goes in
     stored_all g.D.Disk c.args.self.now c.args.work.xid c.args.bytes.now keys c.put_document.new.self c.in_ok-name.name
     (c.in_ok-name.ensures.place).1 puts.0 puts.1 puts.2 (c.in_ok-name.ensures.fault).down c.index_document.new.self
-    c.in_ok-index_document.ensures.goes
+    c.in_ok-index_document.ensures.rows
 
 pub returns-clause-keeps : goal.returns-clause-keeps
 returns-clause-keeps g c =
