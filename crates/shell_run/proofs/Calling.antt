@@ -18,6 +18,7 @@ use Rattle.engine.specs.Answers.{HasCommitted, HasRefused, HasDeleted, HasFound,
 use Rattle.engine.specs.Cleaning.{HasMoved, HasCleaned, Tidies, StoresThenTidies}
 use Rattle.engine.specs.Vacuuming.{HasWorked, HasVacuumed}
 use Rattle.engine.specs.Answers.{IsRefused}
+use Rattle.engine.specs.Coming.{ComesToBadPage}
 use Rattle.engine.specs.Answers.{Refuses, IsLawfulRefusal, MeetsNoBadPage, OnlyReads, Pass}
 use Rattle.engine.specs.declared.commit_names.CommitNames.{CommitNames}
 use Rattle.engine.specs.declared.error.DbError.{DbError}
@@ -149,7 +150,7 @@ module _ {D : Type 0} (device : Disk D) (old new : DbValue D) where
     by : (c : Commit) → more ≡ c ∷ [] → (name : Name) × (c ≡ commit_of w name)
     grown : device.tells → HasGrown device old new more
 
-  no_more : (w : Work) (e : DbError) → IsRefused device old new w → Refused w e
+  no_more : (w : Work) (e : DbError) → IsRefused device old new w e → Refused w e
   no_more w e h = record {
     more = [];
     one = inl refl;
@@ -292,26 +293,27 @@ module _ {D : Type 0} (device : Disk D) (old new : DbValue D) where
       }
 
   searches : (known : Known) (line : ℕ) (s : QuerySource) (q : Query) (answer : Result (Vec Name Global) DbError)
-      → IsQueryOf known s q → HasFound device old new (Holds q) answer → FaultIsTold device old new answer
+      → IsQueryOf known s q → HasFound device old new (Holds q) answer × IfErr answer (ComesToBadPage device old q)
+      → FaultIsTold device old new answer
       → IfErr answer (MeetsNoBadPage device old) → OnlyReads device old new → GoesOn device old new
       → Moves device old new known line (finding s) (found_reply answer)
   searches known line s q (Ok names) value h told lawful reads on =
-      read_moves known line (finding s) (lists names.items) h.0 tt (λ n x. cc) (λ x. cc) (λ x. x) reads told on
-      (inr (q, value, reads, h.0))
+      read_moves known line (finding s) (lists names.items) h.0.0 tt (λ n x. cc) (λ x. cc) (λ x. x) reads told on
+      (inr (q, value, reads, h.0.0))
       (λ t found H stands low k note is own tells. inr (
         q,
         value,
         search_done device old new found H [] k note is own
-            tells t stands low refl q names h.0 (h.1 t found H stands),
+            tells t stands low refl q names h.0.0 (h.0.1 t found H stands),
       ))
   searches known line s q (Err x) value h told lawful reads on =
       err_moves device old new (Vec Name Global) known line (finding s) x [] tt (λ f. inl tt)
-      (read_up device old new x h) told on (inl refl) (inr (q, value, reads, (x, refl, h))) reads.nothing
+      (read_up device old new x h.0) told on (inl refl) (inr (q, value, reads, (x, refl, h))) reads.nothing
       (λ t found H stands low k note is own tells. inr (
         q,
         value,
         search_row device old new found H [] k note is own
-            tells t stands low refl q x h lawful,
+            tells t stands low refl q x h.0 lawful,
       ))
 
   lists_moves : (known : Known) (line : ℕ) (answer : Result (Vec CommitNames Global) DbError) (reply : Reply)

@@ -8,6 +8,7 @@ use Rattle.engine.specs.Db.{DbValue, disk_of, IsUp, IsFlushed}
 use Rattle.engine.specs.Finding.{Name}
 use Rattle.engine.specs.Work.{Work, inserting, updating, deleting}
 use Rattle.engine.specs.Answers.{Pass, HasCommitted, HasRefused, OnlyReads, CannotRead}
+use Rattle.engine.specs.Coming.{ComesToBadPage}
 use Rattle.engine.specs.Cleaning.{HasMoved, AreMoved, CannotClean, Tidies}
 use Rattle.engine.specs.Vacuuming.{HasWorked, AreOut, CannotVacuum}
 use Rattle.engine.specs.declared.error.DbError.{DbError}
@@ -69,6 +70,10 @@ module _ {D : Type 0} (device : Disk D) (old new : DbValue D) where
   IsVacuumed maintained = IsUp old × AreOut device old new
   IsVacuumed reply = ⊥
 
+  -- a search is refused as what only reads, and it came to the bad page that it names on its way
+  abbrev pub CannotSearch : Query → DbError → Type 0
+  CannotSearch q e = CannotRead device old new e × ComesToBadPage device old q e
+
   -- replies Ok to what only reads
   abbrev pub IsListOfNames : Reply → Type 0
   IsListOfNames (lists names) = IsUp old
@@ -96,7 +101,7 @@ module _ {D : Type 0} (device : Disk D) where
   IsCaused old new known line (search s) r =
       (IsRefusedBy (QueryFails known s) r × (new ≡ old))
       ⊎ ((q : Query) × IsQueryOf known s q × OnlyReads device old new
-      × IsReplyFor (IsListOfNames device old new) (CannotRead device old new) r)
+      × IsReplyFor (IsListOfNames device old new) (CannotSearch device old new q) r)
   IsCaused old new known line clean_up r =
       HasMoved device old new × IsReplyFor (IsMaintained device old new) (CannotClean device old new) r
   IsCaused old new known line vacuum r =

@@ -11,6 +11,7 @@ use Rattle.engine.specs.Finding.{Name}
 use Rattle.engine.specs.Db.{DbValue}
 use Rattle.engine.specs.Work.{Work, inserting, updating, deleting}
 use Rattle.engine.specs.Answers.{HasDeleted, HasFound, HasListed, OnlyReads, TakesSnapshot}
+use Rattle.engine.specs.Coming.{ComesToBadPage}
 use Rattle.engine.specs.Cleaning.{HasMoved, HasCleaned, StoresThenTidies}
 use Rattle.engine.specs.Vacuuming.{HasWorked, HasVacuumed}
 use Rattle.engine.specs.Answers.{IsLawfulRefusal, MeetsNoBadPage}
@@ -72,7 +73,8 @@ module _ {D : Type 0} (device : Disk D) (old new : DbValue D) (pass pass' : Pass
   abbrev pub HasSearched : Query → Reply → Type 0
   HasSearched q r =
       OnlyReads device old new
-      × HasCalled (HasFound device old new (Holds q)) (MeetsNoBadPage device old)
+      × HasCalled (λ (a : Result (Vec Name Global) DbError). HasFound device old new (Holds q) a
+      × IfErr a (ComesToBadPage device old q)) (MeetsNoBadPage device old)
       (λ (a : Result (Vec Name Global) DbError). λ r. r ≡ found_reply a) r
 
   abbrev pub HasListedCommits : Reply → Type 0
