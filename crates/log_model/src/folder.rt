@@ -1,6 +1,6 @@
 // A folder with a log, what is wanted of it, its walks and its edits.
 use crate::history::{commit_line, record_line};
-use crate::judge::{Beginning, Judged, Verdict, judge, records_of};
+use crate::judge::{Judged, Verdict, judge, judge_alone, records_of};
 use crate::lines::{say, say_counts};
 use crate::parts::test_parts;
 use crate::same::same_in_front;
@@ -152,17 +152,23 @@ fn print_history<R: Files + Print + AllocGlobal>(
     judged: &Judged,
 ) -> Result<usize> {
     let wanted = text_in(rt, folder, "commits")?;
-    print_commits(rt, &judged.ledger, wanted.as_str())
+    print_commits(rt, judged.ledger(), wanted.as_str())
+}
+
+/// How many first records an edit leaves as they are in the log with these; all where it leaves no store.
+fn untouched_by(alloc: Global, line: &str, log: &[u8], records: &[Record]) -> Result<usize> {
+    let bytes = EditLine::new(line)?.apply(alloc, log)?;
+    match records_of(alloc, &bytes)? {
+        Some(edited) => Ok(same_in_front(&edited, records)),
+        None => Ok(records.len()),
+    }
 }
 
 /// How many first records each edit leaves as they are in the log with these.
 fn untouched(alloc: Global, edits: &str, log: &[u8], records: &[Record]) -> Result<usize> {
     let mut count = records.len();
     for line in edits.lines() {
-        let bytes = EditLine::new(line)?.apply(alloc, log)?;
-        if let Some(edited) = records_of(alloc, &bytes)? {
-            count = count.min(same_in_front(&edited, records));
-        }
+        count = count.min(untouched_by(alloc, line, log, records)?);
     }
     Ok(count)
 }
@@ -172,11 +178,11 @@ fn edited_verdict(
     alloc: Global,
     edit: EditLine<'_>,
     log: &[u8],
-    beginning: &Beginning,
+    beginning: &[Record],
     index: bool,
 ) -> Result<Verdict> {
     let bytes = edit.apply(alloc, log)?;
-    Ok(judge(alloc, &bytes, beginning, index)?.verdict)
+    Ok(judge_alone(alloc, &bytes, beginning, index)?)
 }
 
 /// Prints what an edit does, the wanted verdict, and this one with its rule.
@@ -202,7 +208,7 @@ fn test_edit(
     rt: &(impl Print + AllocGlobal),
     line: &str,
     log: &[u8],
-    beginning: &Beginning,
+    beginning: &[Record],
     asks: Asks,
 ) -> Result<bool> {
     let edit = EditLine::new(line)?;
@@ -215,20 +221,19 @@ fn test_edit(
     Ok(agrees)
 }
 
-/// The records with which the log and each edit of it begin, where the log is legal; they are judged once more, and not
-/// again for each edit.
-fn beginning_of(
+/// The records with which the log and each edit of it begin, where the log is legal; they are not judged again for each
+/// edit.
+fn beginning_of<'a>(
     alloc: Global,
     log: &[u8],
-    judged: &Judged,
+    judged: &'a Judged,
     edits: &str,
-    index: bool,
-) -> Result<Beginning> {
+) -> Result<&'a [Record]> {
     if !matches!(judged.verdict, Verdict::Legal) {
-        return Ok(Beginning::new(alloc));
+        return Ok(&[]);
     }
     let count = untouched(alloc, edits, log, &judged.records)?;
-    Beginning::of(alloc, log, count, index)?.context("a legal log begins with one")
+    Ok(judged.records.get(..count).unwrap_or(&[]))
 }
 
 /// Tests each of these edits of a log; it says how many there are, and how many differ.
@@ -236,7 +241,7 @@ fn test_each(
     rt: &(impl Print + AllocGlobal),
     edits: &str,
     log: &[u8],
-    beginning: &Beginning,
+    beginning: &[Record],
     asks: Asks,
 ) -> Result<(usize, usize)> {
     let mut count = 0usize;
@@ -256,7 +261,7 @@ fn test_lines(
     rt: &(impl Print + AllocGlobal),
     edits: &str,
     log: &[u8],
-    beginning: &Beginning,
+    beginning: &[Record],
     asks: Asks,
 ) -> Result<usize> {
     let (count, differ) = test_each(rt, edits, log, beginning, asks)?;
@@ -273,8 +278,8 @@ fn test_edits<R: Files + Print + AllocGlobal>(
     asks: Asks,
 ) -> Result<usize> {
     let edits = text_in(rt, folder, "edits")?;
-    let beginning = beginning_of(rt.alloc(), log, judged, edits.as_str(), asks.index)?;
-    test_lines(rt, edits.as_str(), log, &beginning, asks)
+    let beginning = beginning_of(rt.alloc(), log, judged, edits.as_str())?;
+    test_lines(rt, edits.as_str(), log, beginning, asks)
 }
 
 /// Prints a verdict, with the rule that is broken, if one is.
@@ -320,7 +325,7 @@ fn test_log<R: Files + Print + AllocGlobal>(
     asks: Asks,
 ) -> Result<usize> {
     let alloc = rt.alloc();
-    let judged = judge(alloc, log, &Beginning::new(alloc), asks.index)?;
+    let judged = judge(alloc, log, &[], asks.index)?;
     test_judged(rt, folder, log, &judged, asks)
 }
 

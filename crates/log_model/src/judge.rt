@@ -61,48 +61,46 @@ impl Verdict {
 pub(crate) struct Judged {
     /// All records that were read.
     pub(crate) records: Vec<Record>,
-    /// The transactions after the valid ones.
-    pub(crate) ledger: Ledger,
+    /// The log as far as it is valid.
+    prefix: Prefix,
     /// The verdict.
     pub(crate) verdict: Verdict,
 }
 
-/// First records of logs, which are a legal log.
-#[derive(Drop)]
-pub(crate) struct Beginning {
-    /// The records.
-    records: Vec<Record>,
-}
-
-impl Beginning {
-    /// No records.
-    pub(crate) fn new(alloc: Global) -> Beginning {
-        Beginning {
-            records: Vec::new(alloc),
+impl Judged {
+    /// A log with these records, if it has any, before they are judged.
+    fn new(alloc: Global, records: Option<Vec<Record>>) -> Judged {
+        match records {
+            Some(records) => Judged {
+                records,
+                prefix: Prefix::new(alloc),
+                verdict: Verdict::Legal,
+            },
+            None => Judged {
+                records: Vec::new(alloc),
+                prefix: Prefix::new(alloc),
+                verdict: Verdict::NotAStore,
+            },
         }
     }
 
-    /// So many first records of a log; none where they are no legal log.
-    pub(crate) fn of(
+    /// The transactions after the valid records.
+    pub(crate) fn ledger(&self) -> &Ledger {
+        &self.prefix.ledger
+    }
+
+    /// The records are judged. That these are a legal log, with which they may begin, is known.
+    fn judge(
+        &mut self,
         alloc: Global,
-        log: &[u8],
-        count: usize,
+        beginning: &[Record],
         asks_index: bool,
-    ) -> Result<Option<Beginning>, AllocError> {
-        let Some(mut records) = records_of(alloc, log)? else {
-            return Ok(None);
-        };
-        records.truncate(count);
-        let judged = judge_records(alloc, records, &Beginning::new(alloc), asks_index)?;
-        let Judged {
-            records,
-            verdict,
-            ..
-        } = judged;
-        Ok(match verdict {
-            Verdict::Legal => Some(Beginning { records }),
-            _ => None,
-        })
+    ) -> Result<(), AllocError> {
+        if matches!(self.verdict, Verdict::Legal) {
+            know_beginning(alloc, &self.records, beginning, &mut self.prefix)?;
+            self.verdict = judge_rest(alloc, &self.records, &mut self.prefix, asks_index)?;
+        }
+        Ok(())
     }
 }
 
@@ -147,17 +145,22 @@ fn first_invalid(
     Ok(Verdict::Legal)
 }
 
-/// The log with these records as far as they are known to be valid.
-fn known(alloc: Global, records: &[Record], beginning: &Beginning) -> Result<Prefix, AllocError> {
-    let count = beginning.records.len();
-    if same_in_front(records, &beginning.records) < count {
-        return Ok(Prefix::new(alloc));
+/// The log with these records as far as they are known to be valid: they may begin with these, which are a legal log.
+fn know_beginning(
+    alloc: Global,
+    records: &[Record],
+    beginning: &[Record],
+    prefix: &mut Prefix,
+) -> Result<(), AllocError> {
+    if same_in_front(records, beginning) < beginning.len() {
+        return Ok(());
     }
-    match Prefix::again(alloc, &beginning.records) {
-        Ok(prefix) => Ok(prefix),
-        Err(Fault::OutOfMemory) => Err(AllocError),
-        Err(Fault::Broken(_)) => Ok(Prefix::new(alloc)),
+    match prefix.know(alloc, beginning) {
+        Ok(()) => {}
+        Err(Fault::OutOfMemory) => return Err(AllocError),
+        Err(Fault::Broken(_)) => prefix.clear(alloc),
     }
+    Ok(())
 }
 
 /// What the log with these records is, which begins so.
@@ -174,35 +177,24 @@ fn judge_rest(
     }
 }
 
-/// What the log with these records is.
-fn judge_records(
-    alloc: Global,
-    records: Vec<Record>,
-    beginning: &Beginning,
-    asks_index: bool,
-) -> Result<Judged, AllocError> {
-    let mut prefix = known(alloc, &records, beginning)?;
-    let verdict = judge_rest(alloc, &records, &mut prefix, asks_index)?;
-    Ok(Judged {
-        records,
-        ledger: prefix.ledger,
-        verdict,
-    })
-}
-
-/// What a log file is. That this beginning is legal, if it begins so, is known.
+/// What a log file is. That these records are a legal log, with which it may begin, is known.
 pub(crate) fn judge(
     alloc: Global,
     log: &[u8],
-    beginning: &Beginning,
+    beginning: &[Record],
     asks_index: bool,
 ) -> Result<Judged, AllocError> {
-    match records_of(alloc, log)? {
-        Some(records) => judge_records(alloc, records, beginning, asks_index),
-        None => Ok(Judged {
-            records: Vec::new(alloc),
-            ledger: Ledger::new(alloc),
-            verdict: Verdict::NotAStore,
-        }),
-    }
+    let mut judged = Judged::new(alloc, records_of(alloc, log)?);
+    judged.judge(alloc, beginning, asks_index)?;
+    Ok(judged)
+}
+
+/// The verdict alone.
+pub(crate) fn judge_alone(
+    alloc: Global,
+    log: &[u8],
+    beginning: &[Record],
+    asks_index: bool,
+) -> Result<Verdict, AllocError> {
+    Ok(judge(alloc, log, beginning, asks_index)?.verdict)
 }

@@ -3,7 +3,7 @@ use crate::choices::must_choose;
 use crate::images::must_have_images;
 use crate::told::{empty_state, must_find, must_tell};
 use core_state::State;
-use log_rows::{Step, Terms, row};
+use log_rows::{Step, Terms, left_pages, row};
 use log_walks::{Doc, Fault, Ledger, LeftBytes, LeftPage, Store, must};
 use page_types::{Change, Kind, Record};
 use std::alloc::{AllocError, Global};
@@ -51,6 +51,11 @@ impl Prefix {
         }
     }
 
+    /// The log is empty again.
+    pub(crate) fn clear(&mut self, alloc: Global) {
+        *self = Prefix::new(alloc);
+    }
+
     /// A record places a head, or frees slots.
     fn note_heap(&mut self, record: &Record) -> Result<(), AllocError> {
         match record.kind {
@@ -78,15 +83,13 @@ impl Prefix {
         self.note_heap(record)
     }
 
-    /// The log with these records, which are valid.
-    pub(crate) fn again(alloc: Global, records: &[Record]) -> Result<Prefix, Fault> {
-        let mut prefix = Prefix::new(alloc);
+    /// These records, which are valid, come to the empty log.
+    pub(crate) fn know(&mut self, alloc: Global, records: &[Record]) -> Result<(), Fault> {
         for record in records {
-            change_bytes(alloc, &mut prefix.store, record)?;
-            prefix.note(alloc, record)?;
+            change_bytes(alloc, &mut self.store, record)?;
+            self.note(alloc, record)?;
         }
-        prefix.store.show_all(alloc)?;
-        Ok(prefix)
+        self.store.show_all(alloc)
     }
 
     /// The log has begun, or the record makes the store.
@@ -98,34 +101,53 @@ impl Prefix {
         )
     }
 
-    /// A record may follow, which leaves pages with these bytes, and the core finds the same.
-    fn must_be_valid(&self, step: &Step<'_>, bytes: &[LeftBytes]) -> Result<(), Fault> {
-        must_find(&self.state, step, bytes)?;
-        row(step)
-    }
-
-    /// The pages that a record leaves, where it may follow.
-    fn pages_behind(
+    /// A record may follow that leaves these pages, with these bytes, and the core finds the same.
+    fn must_be_valid(
         &self,
         alloc: Global,
         record: &Record,
         bytes: &[LeftBytes],
+        left: &[LeftPage],
         asks_index: bool,
-    ) -> Result<Vec<LeftPage>, Fault> {
-        let terms = Terms {
-            floor: self.ledger.commits,
-            since: record.number,
-            asks_index,
+    ) -> Result<(), Fault> {
+        let step = Step {
+            alloc,
+            store: &self.store,
+            ledger: &self.ledger,
+            record,
+            left,
+            terms: Terms {
+                floor: self.ledger.commits,
+                since: record.number,
+                asks_index,
+            },
         };
-        let step = Step::new(alloc, &self.store, &self.ledger, record, bytes, terms)?;
-        self.must_be_valid(&step, bytes)?;
-        Ok(step.into_left()?)
+        must_find(&self.state, &step, bytes)?;
+        row(&step)
     }
 
-    /// A valid record comes, which leaves these pages; the core's state says what the ledger says.
-    fn put(&mut self, alloc: Global, record: &Record, left: Vec<LeftPage>) -> Result<(), Fault> {
+    /// A valid record comes that leaves these pages; the core's state then says what the ledger says.
+    fn note_left(
+        &mut self,
+        alloc: Global,
+        record: &Record,
+        left: &[LeftPage],
+    ) -> Result<(), Fault> {
         self.note(alloc, record)?;
-        must_tell(&self.state, &self.ledger, record, &left)?;
+        must_tell(&self.state, &self.ledger, record, left)
+    }
+
+    /// A record comes that leaves pages with these bytes, where it is valid, and the store has what they show.
+    fn put(
+        &mut self,
+        alloc: Global,
+        record: &Record,
+        bytes: &[LeftBytes],
+        asks_index: bool,
+    ) -> Result<(), Fault> {
+        let left = left_pages(alloc, record.number, bytes)?;
+        self.must_be_valid(alloc, record, bytes, &left, asks_index)?;
+        self.note_left(alloc, record, &left)?;
         Ok(self.store.put_pages(left)?)
     }
 
@@ -135,11 +157,10 @@ impl Prefix {
         must_choose(&self.state, &self.ledger, &self.store, &tried, record)
     }
 
-    /// A record comes whose pages have the bytes that it leaves, where it is valid.
+    /// A record comes, where it is valid, and the store has the bytes of its pages.
     fn extend(&mut self, alloc: Global, record: &Record, asks_index: bool) -> Result<(), Fault> {
         let bytes = self.store.bytes_behind(alloc, record)?;
-        let left = self.pages_behind(alloc, record, &bytes, asks_index)?;
-        self.put(alloc, record, left)?;
+        self.put(alloc, record, &bytes, asks_index)?;
         Ok(self.store.put_bytes(bytes)?)
     }
 
@@ -164,15 +185,20 @@ fn change_bytes(alloc: Global, store: &mut Store, record: &Record) -> Result<(),
     Ok(store.put_bytes(bytes)?)
 }
 
+/// The same of each of these records.
+fn change_all(alloc: Global, store: &mut Store, records: &[Record]) -> Result<(), Fault> {
+    for record in records {
+        change_bytes(alloc, store, record)?;
+    }
+    Ok(())
+}
+
 /// Whether each delta of the records applies to its page.
 pub(crate) fn deltas_apply(alloc: Global, records: &[Record]) -> Result<bool, AllocError> {
     let mut store = Store::new(alloc);
-    for record in records {
-        match change_bytes(alloc, &mut store, record) {
-            Ok(()) => {}
-            Err(Fault::OutOfMemory) => return Err(AllocError),
-            Err(Fault::Broken(_)) => return Ok(false),
-        }
+    match change_all(alloc, &mut store, records) {
+        Ok(()) => Ok(true),
+        Err(Fault::OutOfMemory) => Err(AllocError),
+        Err(Fault::Broken(_)) => Ok(false),
     }
-    Ok(true)
 }

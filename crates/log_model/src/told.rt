@@ -9,6 +9,7 @@ use core_state::{
     valid_make_tree, valid_mark_deleted, valid_place_head, valid_put_overflow, valid_put_pending,
     valid_shift, valid_split,
 };
+use core_vacuum::{valid_delete_post, valid_drop_page, valid_free_slots, valid_remove_items};
 use log_rows::{Step, here};
 use log_walks::{Doc, Fault, Ledger, LeftBytes, LeftPage, Rules, Store, Transaction, must};
 use page_code::{PageError, decode_page};
@@ -172,6 +173,25 @@ fn test_index(state: &State, record: &Record, pages: &Pages) -> Result<Option<bo
     Ok(Some(found?))
 }
 
+/// The same of a record that takes dead documents out.
+fn test_vacuum(state: &State, record: &Record, pages: &Pages) -> Result<Option<bool>, AllocError>
+    requires before { All IsPage pages.now.before.items }
+    requires behind { All IsPage pages.now.behind.items }
+{
+    let floor = state.commits();
+    let since = record.number;
+    let before = pages.before.as_slice();
+    let behind = pages.behind.as_slice();
+    let found = match record.kind {
+        Kind::RemoveItems => valid_remove_items(state, record, before, behind, floor, since),
+        Kind::DeletePost => valid_delete_post(state, record, before, behind, floor, since),
+        Kind::DropPage { .. } => valid_drop_page(state, record, before, behind, floor, since),
+        Kind::FreeSlots => valid_free_slots(state, record, before, behind, floor, since),
+        _ => return Ok(None),
+    };
+    Ok(Some(found?))
+}
+
 /// Whether the core finds that a record may come next, as far as its pages before and after it
 /// say; none of a kind without a test.
 fn core_finds(state: &State, step: &Step<'_>, bytes: &[LeftBytes]) -> Result<Option<bool>, Fault> {
@@ -189,6 +209,9 @@ fn core_finds(state: &State, step: &Step<'_>, bytes: &[LeftBytes]) -> Result<Opt
         | Kind::AddPostings
         | Kind::GrowRoot
         | Kind::Split => test_index(state, step.record, &pages),
+        Kind::RemoveItems | Kind::DeletePost | Kind::DropPage { .. } | Kind::FreeSlots => {
+            test_vacuum(state, step.record, &pages)
+        }
         _ => test_transaction(state, step.record, &pages),
     };
     Ok(found?)

@@ -1,4 +1,5 @@
 // Where the content of a tree page is cut in two.
+use crate::lists::in_two;
 use crate::sizes::{HIGH_ITEM, children, entries, high_field, item_list, post_children};
 use log_walks::{PlainBody, PlainChild, PlainEntry};
 use page_types::MOST_BODY_BYTES;
@@ -12,11 +13,6 @@ struct Cut {
     high: usize,
     /// The body of the second part.
     back: usize,
-}
-
-/// The first members of a list, and the others.
-fn in_two<T>(all: &[T], place: usize) -> (&[T], &[T]) {
-    all.split_at_checked(place).unwrap_or((all, &[]))
 }
 
 /// The bytes of a high key that is the last of these entries' keys.

@@ -8,7 +8,7 @@ use log_walks::{
 use page_types::{MOST_BODY_BYTES, MOST_SHORT_BYTES};
 
 /// A head may come to the page: an old heap page, which keeps its right link, or a new page, whose right link is 0.
-fn may_take_head(step: &Step<'_>, heap: &Changed<'_>) -> Rules {
+fn may_take_head(step: &Step<'_>, heap: Changed<'_>) -> Rules {
     match heap.was_live() {
         Some(PlainBody::Heap(_)) => Rules::new().and(heap.keeps_right(), RIGHT),
         _ => step.is_new(heap).and(heap.leads_to(0), RIGHT),
@@ -53,7 +53,7 @@ pub(crate) fn place_head(step: &Step<'_>, doc: Doc) -> Result<(), Fault> {
 }
 
 /// Whether a part of a vector is on the page, which is full unless it ends the chain.
-fn has_part(new: &Changed<'_>, is_last: bool) -> bool {
+fn has_part(new: Changed<'_>, is_last: bool) -> bool {
     match new.left.live() {
         Some(PlainBody::Overflow(part)) => is_last || part.len() == MOST_BODY_BYTES,
         _ => false,
@@ -84,8 +84,10 @@ pub(crate) fn put_overflow_here(step: &Step<'_>, doc: Doc) -> Result<(), Fault> 
 pub(crate) fn put_overflow(step: &Step<'_>, doc: Doc) -> Result<(), Fault> {
     put_overflow_here(step, doc)?;
     let head = step.own_head(doc)?;
-    let keys = whole_keys(step.alloc, step.store, head)?;
-    must(keys.is_none(), "the document isn't whole")
+    match whole_keys(step.alloc, step.store, head)? {
+        None => Ok(()),
+        Some(_) => Err(Fault::Broken("the document isn't whole")),
+    }
 }
 
 /// Whether the transaction that inserted the document has committed.

@@ -62,7 +62,7 @@ fn first_change<'a>(was: KeyLeaf<'a>, left: KeyLeaf<'a>) -> Option<Changing<'a>>
 }
 
 /// The entry of a leaf of the tree of keys that changes.
-fn change_in<'a>(leaf: &'a Changed<'_>) -> Option<Changing<'a>> {
+fn change_in<'a>(leaf: Changed<'a>) -> Option<Changing<'a>> {
     let was = key_leaf_in(leaf.was_live())?;
     let left = key_leaf_in(leaf.left.live())?;
     first_change(was, left)
@@ -116,7 +116,7 @@ struct Grown<'a> {
 }
 
 /// The entry of a leaf whose inline items change, where nothing else does.
-fn grown_entry<'a>(leaf: &'a Changed<'_>) -> Option<Grown<'a>> {
+fn grown_entry<'a>(leaf: Changed<'a>) -> Option<Grown<'a>> {
     let change = change_in(leaf)?;
     let old = items_before(change.was)?;
     let new = inline_items(change.left)?;
@@ -133,7 +133,7 @@ fn grown_entry<'a>(leaf: &'a Changed<'_>) -> Option<Grown<'a>> {
 }
 
 /// The entry of a changed leaf whose inline items change.
-fn entry_grown<'a>(leaf: &'a Changed<'_>) -> Result<Grown<'a>, Fault> {
+fn entry_grown<'a>(leaf: Changed<'a>) -> Result<Grown<'a>, Fault> {
     need(
         grown_entry(leaf),
         "the inline items of one entry of a leaf change",
@@ -185,7 +185,7 @@ pub(crate) fn add_items(step: &Step<'_>) -> Result<(), Fault> {
 }
 
 /// Whether the page is a leaf of a posting tree with these items alone, and no high item.
-fn is_new_leaf(new: &Changed<'_>, items: &[u32]) -> bool {
+fn is_new_leaf(new: Changed<'_>, items: &[u32]) -> bool {
     match post_leaf_in(new.left.live()) {
         Some(leaf) => leaf.high == 0 && leaf.items == items,
         None => false,
@@ -193,7 +193,7 @@ fn is_new_leaf(new: &Changed<'_>, items: &[u32]) -> bool {
 }
 
 /// The inline items of an entry of a leaf, which names this root then, where nothing else changes.
-fn moved_items<'a>(leaf: &'a Changed<'_>, root: u32) -> Option<&'a [u32]> {
+fn moved_items<'a>(leaf: Changed<'a>, root: u32) -> Option<&'a [u32]> {
     let change = change_in(leaf)?;
     let old = change.first?;
     let names = old.key == change.left.key && root_of(change.left) == Some(root);
@@ -278,11 +278,16 @@ struct GrownLeaf<'a> {
 }
 
 /// The leaf of a posting tree that a record changes, where its right link stays.
-fn leaf_grown<'a>(page: &'a Changed<'_>) -> Result<GrownLeaf<'a>, Fault> {
+fn leaf_grown<'a>(page: Changed<'a>) -> Result<GrownLeaf<'a>, Fault> {
     must(page.keeps_right(), RIGHT)?;
-    let was = need(post_leaf_in(page.was_live()), "it changes a posting leaf")?;
-    let left = need(post_leaf_in(page.left.live()), "it stays a posting leaf")?;
-    Ok(GrownLeaf { was, left })
+    match (
+        post_leaf_in(page.was_live()),
+        post_leaf_in(page.left.live()),
+    ) {
+        (Some(was), Some(left)) => Ok(GrownLeaf { was, left }),
+        (Some(_), None) => Err(Fault::Broken("it stays a posting leaf")),
+        (None, _) => Err(Fault::Broken("it changes a posting leaf")),
+    }
 }
 
 /// These items come to the leaf up to its high item, at least one of them not there yet.

@@ -18,4 +18,4 @@ mod transaction_rows;
 mod vacuum_rows;
 
 pub use rows::{here, row};
-pub use step::{Changed, Step, Terms};
+pub use step::{Step, Terms, left_pages};

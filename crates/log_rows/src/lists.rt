@@ -1,18 +1,21 @@
 // Lists before a record and after it.
 
+/// The first members of a list, and the others.
+pub(crate) fn in_two<T>(all: &[T], place: usize) -> (&[T], &[T]) {
+    all.split_at_checked(place).unwrap_or((all, &[]))
+}
+
 /// Two lists without the members with which both begin.
 pub(crate) fn without_same<'a, T: PartialEq>(was: &'a [T], left: &'a [T]) -> (&'a [T], &'a [T]) {
-    let mut olds = was;
-    let mut news = left;
-    for _ in 0..was.len() {
-        match (olds, news) {
-            ([old, others @ ..], [new, rest @ ..]) if old == new => {
-                olds = others;
-                news = rest;
-            }
-            _ => break,
+    let mut same = 0usize;
+    for (old, new) in was.iter().zip(left) {
+        if old != new {
+            break;
         }
+        same = same.saturating_add(1);
     }
+    let (_, olds) = in_two(was, same);
+    let (_, news) = in_two(left, same);
     (olds, news)
 }
 

@@ -12,6 +12,24 @@ pub(crate) enum Divider<'a> {
     Item(u32),
 }
 
+impl Divider<'_> {
+    /// Whether it is this key.
+    pub(crate) fn is_key(self, bound: &[u8]) -> bool {
+        match self {
+            Divider::Key(mid) => mid == bound,
+            Divider::Item(_) => false,
+        }
+    }
+
+    /// Whether it is this item.
+    pub(crate) fn is_item(self, bound: u32) -> bool {
+        match self {
+            Divider::Key(_) => false,
+            Divider::Item(mid) => mid == bound,
+        }
+    }
+}
+
 /// The last bound of children in the tree of keys; no bytes where there is none.
 fn last_key(children: &[PlainChild]) -> &[u8] {
     match children.last() {

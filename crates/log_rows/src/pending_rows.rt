@@ -132,7 +132,7 @@ fn added_row<'a>(was: &[PlainRow], left: &'a [PlainRow], item: u32) -> Option<&'
 }
 
 /// The row with this item that comes to a pending page, which keeps its right link.
-fn row_added_to<'a>(page: &'a Changed<'_>, item: u32) -> Result<&'a PlainRow, Fault> {
+fn row_added_to<'a>(page: Changed<'a>, item: u32) -> Result<&'a PlainRow, Fault> {
     let stays = page.keeps_right() && is_pending(page.was_live());
     must(stays, "it changes a pending page")?;
     let row = added_row(rows_in(page.was_live()), rows_in(page.left.live()), item);
@@ -165,18 +165,18 @@ pub(crate) fn add_row(step: &Step<'_>, doc: Doc) -> Result<(), Fault> {
 }
 
 /// What is on a metapage.
-#[derive(Clone, Copy, PartialEq)]
-struct Meta {
+#[derive(Clone, Copy)]
+pub(crate) struct Meta {
     /// The first pending page, or 0.
-    first: u32,
+    pub(crate) first: u32,
     /// The last one, or 0.
-    last: u32,
+    pub(crate) last: u32,
     /// How many there are.
-    pages: u32,
+    pub(crate) pages: u32,
 }
 
 /// The metapage that this is.
-fn meta_in(body: Option<&PlainBody>) -> Option<Meta> {
+pub(crate) fn meta_in(body: Option<&PlainBody>) -> Option<Meta> {
     match body {
         Some(PlainBody::Meta { first, last, pages }) => Some(Meta {
             first: *first,
@@ -197,7 +197,7 @@ struct Listing {
 }
 
 /// How the metapage changes, which keeps its right link.
-fn listing_of(meta: &Changed<'_>) -> Option<Listing> {
+fn listing_of(meta: Changed<'_>) -> Option<Listing> {
     let was = meta_in(meta.was_live())?;
     let left = meta_in(meta.left.live())?;
     if meta.page == META && meta.keeps_right() {
@@ -208,10 +208,10 @@ fn listing_of(meta: &Changed<'_>) -> Option<Listing> {
 }
 
 /// The metapage as a record that links a chain changes it, and the page that was the list's last, if that is changed.
-fn linked_pages<'a>(step: &'a Step<'_>) -> Option<(Listing, Option<&'a Changed<'a>>)> {
-    match step.changed.as_slice() {
-        [_, meta] => Some((listing_of(meta)?, None)),
-        [_, meta, last] => Some((listing_of(meta)?, Some(last))),
+fn linked_pages<'a>(step: &Step<'a>) -> Option<(Listing, Option<Changed<'a>>)> {
+    match step.left {
+        [_, meta] => Some((listing_of(step.changed(meta))?, None)),
+        [_, meta, last] => Some((listing_of(step.changed(meta))?, Some(step.changed(last)))),
         _ => None,
     }
 }
@@ -225,7 +225,7 @@ fn begins_list(meta: Listing, to: u32) -> Rules {
 }
 
 /// The chain from page `to` on comes after the page that the metapage named last.
-fn extends_list(meta: Listing, last: &Changed<'_>, to: u32) -> Rules {
+fn extends_list(meta: Listing, last: Changed<'_>, to: u32) -> Rules {
     let stays = meta.was.first != 0 && meta.left.first == meta.was.first;
     Rules::new()
         .and(stays, "the list has the same first page")
@@ -311,19 +311,18 @@ pub(crate) fn link_pending(step: &Step<'_>, doc: Doc) -> Result<(), Fault> {
     must_link(step, chain)
 }
 
-/// The metapage without its first page, which leads to this one.
-fn meta_without(meta: Meta, right: u32) -> Option<Meta> {
-    Some(Meta {
-        first: right,
-        last: if right == 0 { 0 } else { meta.last },
-        pages: meta.pages.checked_sub(1)?,
-    })
+/// The first page leaves the list, and leads to this one.
+fn is_shifted(meta: Listing, right: u32) -> bool {
+    let last = if right == 0 { 0 } else { meta.was.last };
+    meta.left.first == right
+        && meta.left.last == last
+        && meta.left.pages.checked_add(1) == Some(meta.was.pages)
 }
 
 /// The first page leaves the metapage's list, and leads to this one.
-fn meta_shifts(page: &Changed<'_>, right: u32) -> bool {
+fn meta_shifts(page: Changed<'_>, right: u32) -> bool {
     match listing_of(page) {
-        Some(meta) => meta_without(meta.was, right) == Some(meta.left),
+        Some(meta) => is_shifted(meta, right),
         None => false,
     }
 }

@@ -7,10 +7,12 @@ use crate::pending_rows::{
     add_row, add_row_here, link_pending, link_pending_here, put_pending, put_pending_here, shift,
     shift_here,
 };
-use crate::shape_rows::{delete_post, grow_root, grow_root_here, split};
+use crate::shape_rows::{delete_post, delete_post_here, grow_root, grow_root_here, split};
 use crate::step::Step;
 use crate::transaction_rows::{abort, begin, checkpoint, commit, commit_here, create};
-use crate::vacuum_rows::{drop_page, free_slots, remove_items};
+use crate::vacuum_rows::{
+    drop_page, drop_page_here, free_slots, free_slots_here, remove_items, remove_items_here,
+};
 use log_walks::{Doc, Fault};
 use page_types::Kind;
 
@@ -56,8 +58,8 @@ pub fn row(step: &Step<'_>) -> Result<(), Fault> {
     }
 }
 
-/// The rules of a record that changes the index which speak of it and its pages alone, for the kinds 12 to 17; none of
-/// another kind.
+/// The rules of a record that changes the index, or frees slots, which speak of it, its pages and transactions alone,
+/// for the kinds 12 to 19 and 21; none of another kind.
 fn tree_here(step: &Step<'_>) -> Option<Result<(), Fault>> {
     match step.record.kind {
         Kind::Shift => Some(shift_here(step)),
@@ -65,12 +67,15 @@ fn tree_here(step: &Step<'_>) -> Option<Result<(), Fault>> {
         Kind::AddPostings => Some(add_postings_here(step)),
         Kind::GrowRoot => Some(grow_root_here(step)),
         Kind::MakeTree | Kind::Split => Some(tree_row(step)),
+        Kind::RemoveItems => Some(remove_items_here(step)),
+        Kind::DeletePost => Some(delete_post_here(step)),
+        Kind::FreeSlots => Some(free_slots_here(step)),
         _ => None,
     }
 }
 
 /// The first broken rule of those that speak of the record, of its pages before and after, of transactions and of the
-/// numbers that come next alone, for the kinds 1 to 4 and 6 to 17; none of another kind.
+/// numbers that come next alone, for the kinds 1 to 4 and 6 to 21; none of another kind.
 pub fn here(step: &Step<'_>) -> Option<Result<(), Fault>> {
     match step.record.kind {
         Kind::Commit { commit: number } => Some(commit_here(step, number)),
@@ -79,6 +84,7 @@ pub fn here(step: &Step<'_>) -> Option<Result<(), Fault>> {
         Kind::PutPending { item, serial } => Some(put_pending_here(step, Doc { item, serial })),
         Kind::AddRow { item, serial } => Some(add_row_here(step, Doc { item, serial })),
         Kind::LinkPending { item, serial } => Some(link_pending_here(step, Doc { item, serial })),
+        Kind::DropPage { item, serial } => Some(drop_page_here(step, Doc { item, serial })),
         Kind::Create | Kind::Begin | Kind::Abort | Kind::MarkDeleted { .. } => Some(row(step)),
         _ => tree_here(step),
     }

@@ -51,7 +51,7 @@ fn is_of_keys(body: &PlainBody) -> bool {
 }
 
 /// Whether the root has become an inner page of the tree with this content, whose one child is the page.
-fn has_one_child(root: &Changed<'_>, body: &PlainBody, page: u32) -> bool {
+fn has_one_child(root: Changed<'_>, body: &PlainBody, page: u32) -> bool {
     match root.left.live() {
         Some(PlainBody::EntryInner(all)) => is_of_keys(body) && is_only_key_child(all, page),
         Some(PlainBody::PostInner(all)) => !is_of_keys(body) && is_only_item_child(all, page),
@@ -60,12 +60,10 @@ fn has_one_child(root: &Changed<'_>, body: &PlainBody, page: u32) -> bool {
 }
 
 /// What was on a tree page whose body has more than 4084 bytes.
-fn large_body<'a>(page: &'a Changed<'_>) -> Option<&'a PlainBody> {
-    let body = page.was_live()?;
-    if tree_body(body)? > HALF_BODY {
-        Some(body)
-    } else {
-        None
+fn large_body<'a>(page: Changed<'a>) -> Option<&'a PlainBody> {
+    match page.was_live() {
+        Some(body) if tree_body(body) > HALF_BODY => Some(body),
+        _ => None,
     }
 }
 
@@ -127,12 +125,10 @@ fn times_in_items(children: &[PostChild], page: u32) -> usize {
 /// Whether the old child, which was split, became the page with this bound and the new one with its own.
 fn is_key_split(old: &PlainChild, news: (&PlainChild, &PlainChild), halves: Halves<'_>) -> bool {
     let (page, new) = news;
-    let placed = page.page == halves.page && new.page == halves.new;
-    let bounded = match halves.divider {
-        Divider::Key(mid) => page.bound.as_slice() == mid,
-        Divider::Item(_) => false,
-    };
-    placed && bounded && new.bound == old.bound
+    page.page == halves.page
+        && new.page == halves.new
+        && halves.divider.is_key(&page.bound)
+        && new.bound == old.bound
 }
 
 /// The children after what became of the old one; none where that is something else.
@@ -177,12 +173,10 @@ fn key_children_split(was: &[PlainChild], left: &[PlainChild], halves: Halves<'_
 /// own.
 fn is_item_split(old: &PostChild, news: (&PostChild, &PostChild), halves: Halves<'_>) -> bool {
     let (page, new) = news;
-    let placed = page.page == halves.page && new.page == halves.new;
-    let bounded = match halves.divider {
-        Divider::Key(_) => false,
-        Divider::Item(mid) => page.bound == mid,
-    };
-    placed && bounded && new.bound == old.bound
+    page.page == halves.page
+        && new.page == halves.new
+        && halves.divider.is_item(page.bound)
+        && new.bound == old.bound
 }
 
 /// The children after what became of the old one; none where that is something else.
@@ -237,7 +231,7 @@ fn parent_splits(was: &PlainBody, left: &PlainBody, halves: Halves<'_>) -> bool 
 }
 
 /// The parent keeps its right link, and gets the new page.
-fn parent_gets(parent: &Changed<'_>, halves: Halves<'_>) -> Rules {
+fn parent_gets(parent: Changed<'_>, halves: Halves<'_>) -> Rules {
     let gets = match (parent.was_live(), parent.left.live()) {
         (Some(was), Some(left)) => parent_splits(was, left, halves),
         _ => false,
@@ -248,7 +242,7 @@ fn parent_gets(parent: &Changed<'_>, halves: Halves<'_>) -> Rules {
 }
 
 /// The page's content was split into what is on the page and on the new one.
-fn is_halved(body: &PlainBody, page: &Changed<'_>, new: &Changed<'_>) -> Rules {
+fn is_halved(body: &PlainBody, page: Changed<'_>, new: Changed<'_>) -> Rules {
     let front = &page.left.body;
     Rules::new()
         .and(!page.left.deleted && !new.left.deleted, LEFT)
@@ -263,14 +257,14 @@ fn is_halved(body: &PlainBody, page: &Changed<'_>, new: &Changed<'_>) -> Rules {
 }
 
 /// The page leads to the new one, which takes its right link.
-fn links_new(page: &Changed<'_>, new: &Changed<'_>) -> Rules {
+fn links_new(page: Changed<'_>, new: Changed<'_>) -> Rules {
     Rules::new()
         .and(page.leads_to(new.page), RIGHT)
         .and(new.leads_to(page.right_before()), RIGHT)
 }
 
 /// The page and the new one, as the parent has them.
-fn halves_of<'a>(page: &'a Changed<'_>, new: &Changed<'_>) -> Halves<'a> {
+fn halves_of<'a>(page: Changed<'a>, new: Changed<'_>) -> Halves<'a> {
     Halves {
         page: page.page,
         new: new.page,
@@ -296,9 +290,9 @@ pub(crate) fn split(step: &Step<'_>) -> Result<(), Fault> {
 
 /// Whether the page is a child, and not the last one.
 fn is_before_last(children: &[PostChild], page: u32) -> bool {
-    match children {
-        [others @ .., _] => times_in_items(others, page) > 0,
-        [] => false,
+    match children.last() {
+        Some(last) => last.page != page && times_in_items(children, page) > 0,
+        None => false,
     }
 }
 
@@ -316,7 +310,7 @@ fn others_stay(olds: &[PostChild], news: &[PostChild], page: u32) -> bool {
 }
 
 /// The parent keeps its right link, and loses the leaf, which isn't its last child.
-fn parent_loses(parent: &Changed<'_>, page: u32) -> Rules {
+fn parent_loses(parent: Changed<'_>, page: u32) -> Rules {
     let loses = match (parent.was_live(), parent.left.live()) {
         (Some(PlainBody::PostInner(was)), Some(PlainBody::PostInner(left))) => {
             is_before_last(was, page) && others_stay(was, left, page)
@@ -344,7 +338,7 @@ fn has_left(store: &Store, page: u32) -> bool {
 }
 
 /// Whether the changed page was the left leaf.
-fn was_left(left: &Changed<'_>, page: u32) -> bool {
+fn was_left(left: Changed<'_>, page: u32) -> bool {
     match left.was {
         Some(was) => is_left(was, page),
         None => false,
@@ -352,32 +346,41 @@ fn was_left(left: &Changed<'_>, page: u32) -> bool {
 }
 
 /// The left leaf, whose right link becomes the leaf's.
-fn left_links(left: &Changed<'_>, leaf: &Changed<'_>) -> Rules {
+fn left_links(left: Changed<'_>, leaf: Changed<'_>) -> Rules {
     Rules::new()
         .and(was_left(left, leaf.page), "it changes the left leaf")
         .and(left.leads_to(leaf.left.right), RIGHT)
         .and(left.keeps_body(), LEFT)
 }
 
-/// The pages after the leaf: the left leaf, where there is one, and the parent.
-fn beside_leaves(step: &Step<'_>, leaf: &Changed<'_>) -> Rules {
-    match step.changed.as_slice() {
-        [_, parent] => parent_loses(parent, leaf.page).and(
-            !has_left(step.store, leaf.page),
-            "the left leaf is changed",
-        ),
-        [_, left, parent] => parent_loses(parent, leaf.page).then(left_links(left, leaf)),
+/// The pages after the leaf: the left leaf, if it is changed, and the parent.
+fn beside_leaves(step: &Step<'_>, leaf: Changed<'_>) -> Rules {
+    match step.left {
+        [_, parent] => parent_loses(step.changed(parent), leaf.page),
+        [_, left, parent] => {
+            parent_loses(step.changed(parent), leaf.page).then(left_links(step.changed(left), leaf))
+        }
         _ => Rules::new().and(false, "it changes two pages or three"),
     }
 }
 
-/// 19 DeletePost: the leaf is empty and not its parent's last child; the left leaf's right link becomes the leaf's, the
-/// parent loses the leaf with its bound, and the leaf becomes Deleted.
-pub(crate) fn delete_post(step: &Step<'_>) -> Result<(), Fault> {
+/// 19 DeletePost, where the left leaf may be left out: the leaf is empty and not its parent's last child; the left
+/// leaf's right link becomes the leaf's, the parent loses the leaf with its bound, and the leaf becomes Deleted.
+pub(crate) fn delete_post_here(step: &Step<'_>) -> Result<(), Fault> {
     let leaf = step.first()?;
     let was = need(post_leaf_in(leaf.was_live()), "it changes a posting leaf")?;
     leaf.is_deleted()
         .and(was.items.is_empty(), "the leaf is empty")
         .then(beside_leaves(step, leaf))
+        .end()
+}
+
+/// 19 DeletePost: so it is, and the left leaf, where there is one, is changed.
+pub(crate) fn delete_post(step: &Step<'_>) -> Result<(), Fault> {
+    delete_post_here(step)?;
+    let leaf = step.first()?;
+    let left_out = step.left.len() == 2 && has_left(step.store, leaf.page);
+    Rules::new()
+        .and(!left_out, "the left leaf is changed")
         .end()
 }

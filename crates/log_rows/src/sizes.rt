@@ -75,15 +75,15 @@ pub(crate) fn post_children(count: usize) -> usize {
 /// The high item of a posting leaf.
 pub(crate) const HIGH_ITEM: usize = 4;
 
-/// The body of a tree page; none of another page.
-pub(crate) fn tree_body(body: &PlainBody) -> Option<usize> {
+/// The body of a tree page; 0 of another page.
+pub(crate) fn tree_body(body: &PlainBody) -> usize {
     match body {
-        PlainBody::EntryLeaf { high, entries: all } => {
-            Some(entries(all).saturating_add(high_field(high)))
-        }
-        PlainBody::EntryInner(all) => Some(children(all)),
-        PlainBody::PostLeaf { items, .. } => Some(item_list(items).saturating_add(HIGH_ITEM)),
-        PlainBody::PostInner(all) => Some(post_children(all.len())),
-        _ => None,
+        PlainBody::EntryLeaf { high, entries: all } => entries(all).saturating_add(high_field(
+            high,
+        )),
+        PlainBody::EntryInner(all) => children(all),
+        PlainBody::PostLeaf { items, .. } => item_list(items).saturating_add(HIGH_ITEM),
+        PlainBody::PostInner(all) => post_children(all.len()),
+        _ => 0,
     }
 }

@@ -2,34 +2,30 @@
 use log_walks::PlainHead;
 use page_types::HeadFields;
 
-/// The slots on both sides of one.
-#[derive(Clone, Copy)]
-struct Beside<'a> {
-    /// Those before it.
-    front: &'a [Option<PlainHead>],
-    /// Those after it.
-    back: &'a [Option<PlainHead>],
-}
-
-/// The slots on both sides of one; none where there are fewer before it.
-fn sides_of(slots: &[Option<PlainHead>], slot: usize) -> Option<Beside<'_>> {
-    match slots.split_at_checked(slot)? {
-        (front, [_, back @ ..]) => Some(Beside { front, back }),
-        (front, back) => Some(Beside { front, back }),
+/// The slots after the first of these.
+fn after_first(slots: &[Option<PlainHead>]) -> &[Option<PlainHead>] {
+    match slots {
+        [_, back @ ..] => back,
+        [] => &[],
     }
 }
 
 /// Whether two lists of slots agree on both sides of one.
 fn agree_beside(was: &[Option<PlainHead>], left: &[Option<PlainHead>], slot: usize) -> bool {
-    match (sides_of(was, slot), sides_of(left, slot)) {
-        (Some(was), Some(left)) => was.front == left.front && was.back == left.back,
+    match (was.split_at_checked(slot), left.split_at_checked(slot)) {
+        (Some((before, old)), Some((front, new))) => {
+            before == front && after_first(old) == after_first(new)
+        }
         _ => false,
     }
 }
 
 /// The head in a slot.
 pub(crate) fn head_in(slots: &[Option<PlainHead>], slot: usize) -> Option<&PlainHead> {
-    slots.get(slot)?.as_ref()
+    match slots.get(slot) {
+        Some(Some(head)) => Some(head),
+        _ => None,
+    }
 }
 
 /// Whether the slot was free or the next, and nothing but it changes.
@@ -38,7 +34,10 @@ pub(crate) fn head_comes(
     left: &[Option<PlainHead>],
     slot: usize,
 ) -> bool {
-    head_in(was, slot).is_none() && agree_beside(was, left, slot)
+    match head_in(was, slot) {
+        None => agree_beside(was, left, slot),
+        Some(_) => false,
+    }
 }
 
 /// The fields of a head, with another first overflow page.

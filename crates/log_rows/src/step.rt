@@ -14,14 +14,14 @@ pub(crate) const RIGHT: &str = "a right link is as the row says";
 pub(crate) const LEFT: &str = "a page is left as the row says";
 
 /// A page that a record changes.
-#[derive(Drop)]
-pub struct Changed<'a> {
+#[derive(Clone, Copy)]
+pub(crate) struct Changed<'a> {
     /// Its number.
-    pub page: u32,
+    pub(crate) page: u32,
     /// As it was, unless no record had changed it.
-    pub was: Option<&'a PlainPage>,
+    pub(crate) was: Option<&'a PlainPage>,
     /// As the record leaves it.
-    pub left: PlainPage,
+    pub(crate) left: &'a PlainPage,
 }
 
 /// By what a record is judged beside the log before it.
@@ -36,7 +36,7 @@ pub struct Terms {
 }
 
 /// A record that comes after a log.
-#[derive(Drop)]
+#[derive(Clone, Copy)]
 pub struct Step<'a> {
     /// What the rows' lists are made on.
     pub alloc: Global,
@@ -46,100 +46,67 @@ pub struct Step<'a> {
     pub ledger: &'a Ledger,
     /// The record.
     pub record: &'a Record,
-    /// The pages that it changes, in its order.
-    pub changed: Vec<Changed<'a>>,
+    /// The pages that it changes, in its order, as it leaves them.
+    pub left: &'a [LeftPage],
     /// By what it is judged.
     pub terms: Terms,
 }
 
 /// The pages that the record with this number changes, whose bytes are these after it.
-fn changed_pages<'a>(
-    alloc: Global,
-    store: &'a Store,
-    number: u64,
-    bytes: &[LeftBytes],
-) -> Result<Vec<Changed<'a>>, Fault> {
+pub fn left_pages(alloc: Global, number: u64, bytes: &[LeftBytes]) -> Result<Vec<LeftPage>, Fault> {
     let mut all = Vec::new(alloc);
     for bytes in bytes {
-        let LeftPage { page, shown } = left_page(alloc, number, bytes)?;
-        all.push(Changed {
-            page,
-            was: store.page(page),
-            left: shown,
-        })?;
+        all.push(left_page(alloc, number, bytes)?)?;
     }
     Ok(all)
 }
 
 impl<'a> Step<'a> {
-    /// The record after this log; its changed pages have these bytes then.
-    pub fn new(
-        alloc: Global,
-        store: &'a Store,
-        ledger: &'a Ledger,
-        record: &'a Record,
-        bytes: &[LeftBytes],
-        terms: Terms,
-    ) -> Result<Step<'a>, Fault> {
-        Ok(Step {
-            alloc,
-            store,
-            ledger,
-            record,
-            changed: changed_pages(alloc, store, record.number, bytes)?,
-            terms,
-        })
+    /// A page that it changes, which it leaves so.
+    pub(crate) fn changed(&self, left: &'a LeftPage) -> Changed<'a> {
+        Changed {
+            page: left.page,
+            was: self.store.page(left.page),
+            left: &left.shown,
+        }
     }
 
-    /// The pages that it leaves.
-    pub fn into_left(self) -> Result<Vec<LeftPage>, AllocError> {
-        let mut all = Vec::new(self.alloc);
-        for change in self.changed {
-            all.push(LeftPage {
-                page: change.page,
-                shown: change.left,
-            })?;
+    /// The page that it changes in this place, from 0 on.
+    fn at(&self, place: usize) -> Result<Changed<'a>, Fault> {
+        match self.left.get(place) {
+            Some(left) => Ok(self.changed(left)),
+            None => Err(Fault::Broken("it changes a page")),
         }
-        Ok(all)
+    }
+
+    /// The one page that it changes.
+    pub(crate) fn one(&self) -> Result<Changed<'a>, Fault> {
+        must(self.left.len() == 1, "it changes one page")?;
+        self.at(0)
+    }
+
+    /// The first page that it changes.
+    pub(crate) fn first(&self) -> Result<Changed<'a>, Fault> {
+        self.at(0)
+    }
+
+    /// The two pages that it changes.
+    pub(crate) fn two(&self) -> Result<(Changed<'a>, Changed<'a>), Fault> {
+        must(self.left.len() == 2, "it changes two pages")?;
+        Ok((self.at(0)?, self.at(1)?))
+    }
+
+    /// The three pages that it changes.
+    pub(crate) fn three(&self) -> Result<(Changed<'a>, Changed<'a>, Changed<'a>), Fault> {
+        must(self.left.len() == 3, "it changes three pages")?;
+        Ok((self.at(0)?, self.at(1)?, self.at(2)?))
     }
 }
 
 impl Step<'_> {
     /// The record changes no page.
     pub(crate) fn changes_none(&self) -> Rules {
-        Rules::new().and(self.changed.is_empty(), "it changes no page")
-    }
-
-    /// The one page that it changes.
-    pub(crate) fn one(&self) -> Result<&Changed<'_>, Fault> {
-        match self.changed.as_slice() {
-            [only] => Ok(only),
-            _ => Err(Fault::Broken("it changes one page")),
-        }
-    }
-
-    /// The first page that it changes.
-    pub(crate) fn first(&self) -> Result<&Changed<'_>, Fault> {
-        match self.changed.as_slice() {
-            [first, ..] => Ok(first),
-            [] => Err(Fault::Broken("it changes a page")),
-        }
-    }
-
-    /// The two pages that it changes.
-    pub(crate) fn two(&self) -> Result<(&Changed<'_>, &Changed<'_>), Fault> {
-        match self.changed.as_slice() {
-            [first, second] => Ok((first, second)),
-            _ => Err(Fault::Broken("it changes two pages")),
-        }
-    }
-
-    /// The three pages that it changes.
-    pub(crate) fn three(&self) -> Result<(&Changed<'_>, &Changed<'_>, &Changed<'_>), Fault> {
-        match self.changed.as_slice() {
-            [first, second, third] => Ok((first, second, third)),
-            _ => Err(Fault::Broken("it changes three pages")),
-        }
+        Rules::new().and(self.left.is_empty(), "it changes no page")
     }
 
     /// Its transaction runs.
@@ -172,7 +139,7 @@ impl Step<'_> {
     }
 
     /// The page is new: the lowest one that no record has changed, or one that was deleted early enough.
-    pub(crate) fn is_new(&self, new: &Changed<'_>) -> Rules {
+    pub(crate) fn is_new(&self, new: Changed<'_>) -> Rules {
         match new.was {
             None => Rules::new().and(
                 new.page == self.store.lowest_unused(),
@@ -186,10 +153,13 @@ impl Step<'_> {
     }
 }
 
-impl Changed<'_> {
+impl<'a> Changed<'a> {
     /// What was on the page, unless it was deleted or unused.
-    pub(crate) fn was_live(&self) -> Option<&PlainBody> {
-        self.was?.live()
+    pub(crate) fn was_live(&self) -> Option<&'a PlainBody> {
+        match self.was {
+            Some(was) => was.live(),
+            None => None,
+        }
     }
 
     /// Whether this is what is on the page, which is not deleted.

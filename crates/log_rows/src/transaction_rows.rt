@@ -1,22 +1,21 @@
 // The rows of the kinds 1 to 5: the store is made, transactions begin and end, checkpoints.
+use crate::pending_rows::meta_in;
 use crate::step::{Changed, LEFT, RIGHT, Step};
-use log_walks::{
-    Doc, Fault, META, PlainBody, ROOT, Rules, head_of, is_indexed, key_leaf_in, must, need,
-};
+use log_walks::{Doc, Fault, META, ROOT, Rules, head_of, is_indexed, key_leaf_in, must, need};
 
 /// Xids are below this.
 const XID_BOUND: u32 = 16_777_216;
 
 /// Whether a metapage names no page.
-fn is_empty_meta(meta: &Changed<'_>) -> bool {
-    match meta.left.live() {
-        Some(PlainBody::Meta { first, last, pages }) => *first == 0 && *last == 0 && *pages == 0,
-        _ => false,
+fn is_empty_meta(meta: Changed<'_>) -> bool {
+    match meta_in(meta.left.live()) {
+        Some(meta) => meta.first == 0 && meta.last == 0 && meta.pages == 0,
+        None => false,
     }
 }
 
 /// Whether a leaf of the tree of keys has no high key and no entry.
-fn is_empty_leaf(leaf: &Changed<'_>) -> bool {
+fn is_empty_leaf(leaf: Changed<'_>) -> bool {
     match key_leaf_in(leaf.left.live()) {
         Some(leaf) => leaf.high.is_empty() && leaf.entries.is_empty(),
         None => false,

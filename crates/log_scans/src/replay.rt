@@ -1,5 +1,5 @@
 // Pages as they were read at moments of a log.
-use log_rows::{Step, Terms, row};
+use log_rows::{Step, Terms, left_pages, row};
 use log_walks::{
     Doc, Fault, Ledger, LeftBytes, LeftPage, PlainPage, Store, head_of, is_indexed, must, page_in,
     whole_keys,
@@ -110,17 +110,22 @@ impl Replay {
         }
     }
 
-    /// The pages that a record leaves, where it may follow with the pin's commits as floor, and past the pin without a
-    /// page that was deleted since.
-    fn pages_behind(&self, record: &Record, bytes: &[LeftBytes]) -> Result<Vec<LeftPage>, Fault> {
+    /// A record that leaves these pages may follow with the pin's commits as floor, and past the pin without a page that
+    /// was deleted since.
+    fn must_follow(&self, record: &Record, left: &[LeftPage]) -> Result<(), Fault> {
         let terms = Terms {
             floor: self.pin.commits,
             since: self.since(record.number),
             asks_index: true,
         };
-        let step = Step::new(self.alloc, &self.store, &self.ledger, record, bytes, terms)?;
-        row(&step)?;
-        Ok(step.into_left()?)
+        row(&Step {
+            alloc: self.alloc,
+            store: &self.store,
+            ledger: &self.ledger,
+            record,
+            left,
+            terms,
+        })
     }
 
     /// The keys of a document that is whole.
@@ -172,18 +177,29 @@ impl Replay {
         }
     }
 
-    /// The next record comes, which leaves these pages.
-    fn put(&mut self, record: &Record, pages: Vec<LeftPage>) -> Result<(), AllocError> {
+    /// The next record comes: what it commits.
+    fn note(&mut self, record: &Record) -> Result<(), AllocError> {
         self.note_commit(record)?;
-        self.ledger.note(self.alloc, record)?;
-        self.store.put_pages(pages)
+        self.ledger.note(self.alloc, record)
+    }
+
+    /// The next record comes, which leaves these pages, where it may follow.
+    fn note_left(&mut self, record: &Record, left: &[LeftPage]) -> Result<(), Fault> {
+        self.must_follow(record, left)?;
+        Ok(self.note(record)?)
+    }
+
+    /// The next record comes, which leaves pages with these bytes; the store has what they show.
+    fn put(&mut self, record: &Record, bytes: &[LeftBytes]) -> Result<(), Fault> {
+        let left = left_pages(self.alloc, record.number, bytes)?;
+        self.note_left(record, &left)?;
+        Ok(self.store.put_pages(left)?)
     }
 
     /// The next record comes.
     fn follow(&mut self, record: &Record) -> Result<(), Fault> {
         let bytes = self.store.bytes_behind(self.alloc, record)?;
-        let pages = self.pages_behind(record, &bytes)?;
-        self.put(record, pages)?;
+        self.put(record, &bytes)?;
         Ok(self.store.put_bytes(bytes)?)
     }
 
