@@ -1,11 +1,11 @@
-//! Reads and writes full pages, and follows two logs by the core's state: one of a document for
-//! each transaction, and one of as many transactions that run beside each other, which place a
-//! document, mark it, and then commit, abort or are ended with all others. After the first log each
-//! document is looked up by its name, pages to use again are looked for among many that were
-//! deleted, and pages with room for a head among many full ones. It prints counts. With the word
-//! `time` there are a million transactions in place of 10,000, a tenth of that as deleted pages and
-//! a hundredth as full ones, and it also prints how long each part takes. With `pages`, `documents`
-//! or `runners` it does that part alone.
+//! Reads and writes full pages, seeks keys of a leaf and adds an item under each, and follows two
+//! logs by the core's state: one of a document for each transaction, and one of as many transactions
+//! that run beside each other, which place a document, mark it, and then commit, abort or are ended
+//! with all others. After the first log each document is looked up by its name, pages to use again
+//! are looked for among many that were deleted, and pages with room for a head among many full ones.
+//! It prints counts. With the word `time` there are a million transactions in place of 10,000, a
+//! tenth of that as deleted pages and a hundredth as full ones, and it also prints how long each part
+//! takes. With `pages`, `documents` or `runners` it does that part alone.
 #![tactic(auto)]
 
 mod logs;

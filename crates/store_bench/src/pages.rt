@@ -1,15 +1,30 @@
-// Full pages: their bytes, and how long they take to be read and written.
-ghost use Rattle.std.specs.Prelude.{◌≡◌, length};
+// Full pages: their bytes, and how long they take to be read and written; and a leaf, whose keys are sought and get an
+// item more.
+ghost use Rattle.std.specs.Prelude.{◌≡◌, ℕ, List, length, IfSome, Some};
+ghost use Rattle.std.specs.List.{slice_get};
 ghost use Rattle.page_types.specs.Pages.{IsPage};
+ghost use Rattle.page_types.specs.Views.{entries_in};
+ghost use Rattle.entry_tree.specs.Adding.{IsEntryLeaf, list_entry};
 
 use anyhow::Result;
 use bench_base::{Bench, Figure, numbered};
+use entry_tree::{Added, Found, add, find};
 use page_code::{PageError, decode_page, encode_page};
-use page_types::{Body, PAGE_BYTES, Page};
+use page_types::{Body, PAGE_BYTES, Page, PostingsRef};
 use std::alloc::{AllocError, Global};
+use ts_match::text_class;
 
 /// How often each page is coded.
 const ROUNDS: u32 = 1000;
+
+/// How often a key of the leaf is sought, and an item is added under one.
+const TIMES: u32 = 300_000;
+
+/// How many keys the leaf has.
+const KEYS: u32 = 300;
+
+/// An item that is in no list of the leaf.
+const ITEM: u32 = 100;
 
 /// The front of a heap page of 204 slots, as far as the length of its body.
 const HEAP: &[u8] = b"\x02\0\xcc\0\0\0\0\0\x01\0\0\0\0\0\0\0\xe0\x1f";
@@ -102,12 +117,84 @@ fn code_page(bench: &Bench<'_>, what: &str, front: &[u8], body: &str) -> Result<
     write_page(bench, &bytes)
 }
 
+/// The key of the entry of a leaf with this number, where it has a list of its own.
+fn key_at(page: &Page, k: usize) -> Option<&[u8]>
+    ensures leaf { IfSome result (λ key. IsEntryLeaf page.now.body) }
+    ensures list { IfSome result (λ key. (list : List ℕ)
+        × (slice_get (entries_in page.now.body) k ≡ Some (list_entry key.now list))) }
+{
+    let Body::EntryLeaf { entries, .. } = &page.body else {
+        return None;
+    };
+    let entry = entries.get(k)?;
+    match entry.postings {
+        PostingsRef::Inline(_) => Some(entry.key),
+        PostingsRef::Root(_) => None,
+    }
+}
+
+/// Whether the key of this entry is found at its place.
+fn is_found(page: &Page, k: usize) -> bool
+    requires { IsPage page.now }
+{
+    match key_at(page, k) {
+        Some(key) => find(page, &text_class(), key) == Found::Here { place: k },
+        None => false,
+    }
+}
+
+/// Whether an item more has room under the key of this entry.
+fn takes_item(alloc: Global, page: &Page, k: usize) -> Result<bool, AllocError>
+    requires { IsPage page.now }
+{
+    let Some(key) = key_at(page, k) else {
+        return Ok(false);
+    };
+    let added = add(alloc, page, &text_class(), key, &[ITEM])?;
+    Ok(matches!(added, Added::Done(_)))
+}
+
+/// Seeks the keys of a leaf in turn, and says how often one is found.
+fn find_keys(page: &Page) -> usize
+    requires { IsPage page.now }
+{
+    let mut found = 0usize;
+    for time in 0..TIMES {
+        found = found.saturating_add(usize::from(is_found(page, (time % KEYS) as usize)));
+    }
+    found
+}
+
+/// Adds an item under the keys of a leaf in turn, and says how often it has room.
+fn add_items(alloc: Global, page: &Page) -> Result<usize, AllocError>
+    requires { IsPage page.now }
+{
+    let mut added = 0usize;
+    for time in 0..TIMES {
+        let takes = takes_item(alloc, page, (time % KEYS) as usize)?;
+        added = added.saturating_add(usize::from(takes));
+    }
+    Ok(added)
+}
+
+/// Seeks the keys of a leaf, and adds an item under each.
+fn use_leaf(bench: &Bench<'_>, entries: &str) -> Result<()> {
+    let page = decode_page(bench.alloc(), &page_bytes(bench.alloc(), LEAF, entries)?)?;
+    let start = bench.start()?;
+    let found = find_keys(&page);
+    bench.report(start, found, "keys found on a leaf", Figure::Each(TIMES))?;
+    let start = bench.start()?;
+    let added = add_items(bench.alloc(), &page)?;
+    bench.report(start, added, "items added on it", Figure::Each(TIMES))
+}
+
 /// Reads and writes a heap page, a leaf and a pending page.
 pub(crate) fn code_pages(bench: &Bench<'_>) -> Result<()> {
     let slots = numbered(bench.alloc(), SLOT, 204)?;
     code_page(bench, "heads of a heap page", HEAP, &slots)?;
     let entries = leaf_body(bench.alloc())?;
     code_page(bench, "keys of a leaf", LEAF, &entries)?;
+    use_leaf(bench, &entries)?;
     let rows = numbered(bench.alloc(), ROW, 30)?;
     code_page(bench, "rows of a pending page", PENDING, &rows)
 }

@@ -1,7 +1,10 @@
-// Pages of posting trees: items sought, leaves made, filled and split, roots that grow, parents that take a new page.
+// Pages of posting trees: items sought, leaves made, filled and split, roots that grow, parents that take a new page or
+// lose one; and leaves of the entry tree of which an entry comes to lead to such a tree.
 ghost use Rattle.std.specs.Prelude.{◌≡◌, ◌≤◌, IsTrue};
 ghost use Rattle.page_types.specs.Encoding.{count_of};
 ghost use Rattle.page_types.specs.Pages.{IsPage};
+ghost use Rattle.entry_tree.specs.Adding.{IsEntryLeaf};
+ghost use Rattle.entry_tree.specs.Rooting.{HasListAt};
 ghost use Rattle.posting_tree.specs.Adding.{IsPostLeaf};
 ghost use Rattle.posting_tree.specs.Reading.{IsPostBody};
 
@@ -9,16 +12,23 @@ use crate::heap_tests::has_bytes;
 use crate::kinds::{Kind, try_rows};
 use crate::page_tests::page_in;
 use crate::rows::{bytes_of, cut, number, page_with, word};
-use page_types::{Body, ITEM_LIMIT, MOST_INLINE_BYTES, Page};
+use entry_tree::root_at;
+use page_types::{Body, ITEM_LIMIT, MOST_INLINE_BYTES, Page, PostingsRef};
 use posting_code::{Items, Keep};
-use posting_tree::{Added, add, adopt, find, first_child, grow, has_room, leaf, split, upper};
+use posting_tree::{
+    Added, add, adopt, find, first_child, grow, has_room, leaf, split, unlink, upper,
+};
 use std::alloc::{AllocError, Global};
 use std::test::Fail;
 
 /// What is done with a page, the page before, and what comes of it. `find` has an item; `tell` gives the first child,
 /// the greatest item, and whether a child more has room; `leaf` has a list, and no page before; `add` has two items;
 /// `half` and `most` have the number of the new page of a split, and `grow` that of the root's child; `adopt` has the
-/// page that was split, the new one, and the item that divides them.
+/// page that was split, the new one, and the item that divides them; `unlink` has the child that goes. `root` has the
+/// number of an entry of a leaf of the entry tree, and the root that it leads to in place of its list.
+///
+/// Six such leaves are full, or nearly: in four the first list has no bytes, one, two and three; in two more it has
+/// none, and the body has two bytes less, and one.
 const TREES: &str = "\
     find 2 | 07 00 0300 00*4 00*8 0700 00*6 00*4 010101 | Here
     find 4 | 07 00 0300 00*4 00*8 0700 00*6 00*4 010101 | Absent
@@ -30,10 +40,17 @@ const TREES: &str = "\
     find 2147483647 | 08 00 0200 00*4 00*8 1000 00*6 08 00*3 2c01 00*2 09 00*3 ffffffff | Down { child: 9 }
     find 400 | 08 00 0200 0b 00*3 00*8 1000 00*6 08 00*3 2c01 00*2 09 00*3 9001 00*2 | Down { child: 9 }
     find 401 | 08 00 0200 0b 00*3 00*8 1000 00*6 08 00*3 2c01 00*2 09 00*3 9001 00*2 | Right { page: 11 }
+    find 1 | 07 00 0200 00*4 00*8 0600 00*6 00*4 0202 | Absent
+    find 2 | 07 00 0200 00*4 00*8 0600 00*6 00*4 0202 | Here
+    find 3 | 07 00 0200 00*4 00*8 0600 00*6 00*4 0202 | Absent
+    find 4 | 07 00 0200 00*4 00*8 0600 00*6 00*4 0202 | Here
+    find 5 | 07 00 0200 00*4 00*8 0600 00*6 00*4 0202 | Absent
     tell | 08 00 0200 00*4 00*8 1000 00*6 08 00*3 2c01 00*2 09 00*3 ffffffff | Some(8) 4294967295 true
     tell | 08 00 0200 0b 00*3 00*8 1000 00*6 08 00*3 2c01 00*2 09 00*3 9001 00*2 | Some(8) 400 true
     tell | 07 00 0300 00*4 00*8 0700 00*6 00*4 010101 | None 0 true
     tell | 07 00 0300 09 00*3 00*8 0700 00*6 05 00*3 010101 | None 5 true
+    tell | 07 00 dc1f 00*4 00*8 e01f 00*6 00*4 01*8156 | None 0 true
+    tell | 07 00 dd1f 00*4 00*8 e11f 00*6 00*4 01*8157 | None 0 false
     leaf 010101 | 00 | 07 00 0300 00*4 00*8 0700 00*6 00*4 010101
     leaf 8020 | 00 | 07 00 0100 00*4 00*8 0600 00*6 00*4 8020
     add 4097 4098 | 07 00 0100 00*4 00*8 0600 00*6 00*4 8020 | 07 00 0300 00*4 00*8 0800 00*6 00*4 80200101
@@ -57,6 +74,16 @@ const TREES: &str = "\
         010101; 07 00 0100 00*4 00*8 0900 00*6 00*4 80c6868f01
     most 5 | 07 00 0200 00*4 00*8 0a00 00*6 00*4 01feffffff07 | 07 00 0100 05 00*3 00*8 0500 00*6 01 00*3 01; \
         07 00 0100 00*4 00*8 0900 00*6 00*4 ffffffff07
+    half 5 | 07 00 0200 00*4 00*8 0800 00*6 00*4 01ff8101 | 07 00 0100 05 00*3 00*8 0500 00*6 01 00*3 01; 07 00 \
+        0100 00*4 00*8 0700 00*6 00*4 808201
+    half 5 | 07 00 0200 00*4 00*8 0a00 00*6 00*4 01feffffff07 | 07 00 0100 05 00*3 00*8 0500 00*6 01 00*3 01; \
+        07 00 0100 00*4 00*8 0900 00*6 00*4 ffffffff07
+    most 5 | 07 00 0400 00*4 00*8 0900 00*6 00*4 010101c501 | 07 00 0300 05 00*3 00*8 0700 00*6 03 00*3 010101; \
+        07 00 0100 00*4 00*8 0600 00*6 00*4 c801
+    most 5 | 07 00 0400 00*4 00*8 0a00 00*6 00*4 010101fd8101 | 07 00 0300 05 00*3 00*8 0700 00*6 03 00*3 010101; \
+        07 00 0100 00*4 00*8 0700 00*6 00*4 808201
+    most 5 | 07 00 0400 00*4 00*8 0b00 00*6 00*4 010101bd96b102 | 07 00 0300 05 00*3 00*8 0700 00*6 03 00*3 010101; \
+        07 00 0100 00*4 00*8 0800 00*6 00*4 c096b102
     half 5 | 08 00 0300 00*4 00*8 1800 00*6 08 00*3 2c01 00*2 09 00*3 9001 00*2 0a 00*3 ffffffff | 08 00 0200 \
         05 00*3 00*8 1000 00*6 08 00*3 2c01 00*2 09 00*3 9001 00*2; 08 00 0100 00*4 00*8 0800 00*6 0a 00*3 \
         ffffffff
@@ -74,6 +101,32 @@ const TREES: &str = "\
         1800 00*6 08 00*3 2c01 00*2 09 00*3 f401 00*2 07 00*3 ffffffff
     adopt 7 6 500 | 08 00 0200 00*4 00*8 1000 00*6 08 00*3 2c01 00*2 09 00*3 ffffffff | none
     adopt 7 6 500 | 07 00 0300 00*4 00*8 0700 00*6 00*4 010101 | none
+    unlink 8 | 08 00 0300 00*4 00*8 1800 00*6 08 00*3 2c01 00*2 09 00*3 9001 00*2 0a 00*3 ffffffff | 08 00 0200 00*4 \
+        00*8 1000 00*6 09 00*3 9001 00*2 0a 00*3 ffffffff
+    unlink 9 | 08 00 0300 00*4 00*8 1800 00*6 08 00*3 2c01 00*2 09 00*3 9001 00*2 0a 00*3 ffffffff | 08 00 0200 00*4 \
+        00*8 1000 00*6 08 00*3 2c01 00*2 0a 00*3 ffffffff
+    unlink 10 | 08 00 0300 00*4 00*8 1800 00*6 08 00*3 2c01 00*2 09 00*3 9001 00*2 0a 00*3 ffffffff | none
+    unlink 7 | 08 00 0300 00*4 00*8 1800 00*6 08 00*3 2c01 00*2 09 00*3 9001 00*2 0a 00*3 ffffffff | none
+    unlink 8 | 07 00 0300 00*4 00*8 0700 00*6 00*4 010101 | none
+    root 1 11 | 05 00 0300 0c 00*3 00*8 1e00 00*6 0200 006d 0200 0061 00 0000 0200 0063 00 0300 010101 0200 006d 01 09 \
+        00*3 | 05 00 0300 0c 00*3 00*8 1d00 00*6 0200 006d 0200 0061 00 0000 0200 0063 01 0b 00*3 0200 006d 01 09 00*3
+    root 2 11 | 05 00 0300 0c 00*3 00*8 1e00 00*6 0200 006d 0200 0061 00 0000 0200 0063 00 0300 010101 0200 006d 01 09 \
+        00*3 | no list
+    root 0 11 | 05 00 0400 00*4 00*8 e81f 00*6 0200 0061 00 0000 ff07 00 62*2046 00 e803 01*1000 ff07 00 63*2046 00 \
+        e803 01*1000 1c04 00 64*1051 00 e803 01*1000 | none
+    root 0 11 | 05 00 0400 00*4 00*8 e81f 00*6 0200 0061 00 0100 01 ff07 00 62*2046 00 e803 01*1000 ff07 00 63*2046 \
+        00 e803 01*1000 1c04 00 64*1051 00 e703 01*999 | none
+    root 0 11 | 05 00 0400 00*4 00*8 e81f 00*6 0200 0061 00 0200 0101 ff07 00 62*2046 00 e803 01*1000 ff07 00 \
+        63*2046 00 e803 01*1000 1c04 00 64*1051 00 e603 01*998 | 05 00 0400 00*4 00*8 e81f 00*6 0200 0061 01 0b 00*3 \
+        ff07 00 62*2046 00 e803 01*1000 ff07 00 63*2046 00 e803 01*1000 1c04 00 64*1051 00 e603 01*998
+    root 0 11 | 05 00 0400 00*4 00*8 e81f 00*6 0200 0061 00 0300 010101 ff07 00 62*2046 00 e803 01*1000 ff07 00 \
+        63*2046 00 e803 01*1000 1c04 00 64*1051 00 e503 01*997 | 05 00 0400 00*4 00*8 e71f 00*6 0200 0061 01 0b 00*3 \
+        ff07 00 62*2046 00 e803 01*1000 ff07 00 63*2046 00 e803 01*1000 1c04 00 64*1051 00 e503 01*997
+    root 0 11 | 05 00 0400 00*4 00*8 e61f 00*6 0200 0061 00 0000 ff07 00 62*2046 00 e803 01*1000 ff07 00 63*2046 00 \
+        e803 01*1000 1c04 00 64*1051 00 e603 01*998 | 05 00 0400 00*4 00*8 e81f 00*6 0200 0061 01 0b 00*3 ff07 00 \
+        62*2046 00 e803 01*1000 ff07 00 63*2046 00 e803 01*1000 1c04 00 64*1051 00 e603 01*998
+    root 0 11 | 05 00 0400 00*4 00*8 e71f 00*6 0200 0061 00 0000 ff07 00 62*2046 00 e803 01*1000 ff07 00 63*2046 00 \
+        e803 01*1000 1c04 00 64*1051 00 e703 01*999 | none
 ";
 
 /// Whether a page is a leaf of a posting tree.
@@ -172,14 +225,58 @@ fn is_split(
     have_bytes(alloc, &split(alloc, page, new, keep)?, tells)
 }
 
+/// Whether a root that grows, and its child, are these.
+fn is_grown(alloc: Global, page: &Page, child: u32, tells: &str) -> Result<bool, AllocError>
+    requires { IsPostBody page.now.body }
+{
+    have_bytes(alloc, &grow(alloc, page, child)?, tells)
+}
+
+/// Whether a page that is given is this one, or none is.
+fn is_given(alloc: Global, given: &Option<Page>, tells: &str) -> Result<bool, AllocError> {
+    match given {
+        None => Ok(tells == "none"),
+        Some(page) => has_bytes(alloc, page, tells),
+    }
+}
+
 /// Whether a parent with one child more is this page, or does not name the child.
 fn is_adopted(alloc: Global, parent: &Page, words: &str, tells: &str) -> Result<bool, AllocError> {
     let (page, rest) = word(words);
     let (new, mid) = word(rest);
-    match adopt(parent, number(page), number(new), number(mid))? {
-        None => Ok(tells == "none"),
-        Some(adopted) => has_bytes(alloc, &adopted, tells),
+    let adopted = adopt(parent, number(page), number(new), number(mid))?;
+    is_given(alloc, &adopted, tells)
+}
+
+/// Whether a parent without a child is this page, or has no such child before the last.
+fn is_unlinked(alloc: Global, parent: &Page, child: u32, tells: &str) -> Result<bool, AllocError> {
+    is_given(alloc, &unlink(parent, child)?, tells)
+}
+
+/// Whether an entry of a page has a list of its own.
+fn has_list(page: &Page, place: usize) -> bool
+    ensures leaf { IsTrue result → IsEntryLeaf page.now.body }
+    ensures list { IsTrue result → HasListAt page.now.body place }
+{
+    let Body::EntryLeaf { entries, .. } = &page.body else {
+        return false;
+    };
+    match entries.get(place) {
+        Some(entry) => matches!(entry.postings, PostingsRef::Inline(_)),
+        None => false,
     }
+}
+
+/// Whether a leaf whose entry comes to lead to a tree is this page, or has no room for its root.
+fn is_rooted(alloc: Global, page: &Page, words: &str, tells: &str) -> Result<bool, AllocError>
+    requires { IsPage page.now }
+{
+    let (place, root) = word(words);
+    let place = number(place) as usize;
+    if !has_list(page, place) {
+        return Ok(tells == "no list");
+    }
+    is_given(alloc, &root_at(page, place, number(root))?, tells)
 }
 
 /// Whether a change of a page, or a look at it, gives what its row says.
@@ -187,6 +284,9 @@ fn gives(alloc: Global, page: &Page, words: &str, tells: &str) -> Result<bool, A
     requires { IsPage page.now }
 {
     let (verb, words) = word(words);
+    if verb == "root" {
+        return is_rooted(alloc, page, words, tells);
+    }
     if !is_tree_page(page) {
         return is_made(alloc, words, tells);
     }
@@ -196,7 +296,8 @@ fn gives(alloc: Global, page: &Page, words: &str, tells: &str) -> Result<bool, A
         "add" => is_filled(alloc, page, words, tells),
         "half" => is_split(alloc, page, Keep::Half, number(words), tells),
         "most" => is_split(alloc, page, Keep::Most, number(words), tells),
-        "grow" => have_bytes(alloc, &grow(alloc, page, number(words))?, tells),
+        "grow" => is_grown(alloc, page, number(words), tells),
+        "unlink" => is_unlinked(alloc, page, number(words), tells),
         _ => is_adopted(alloc, page, words, tells),
     }
 }
