@@ -1,12 +1,12 @@
--- What each step leaves of a scan and of a cleanup that take turns.
-use Rattle.std.proofs.Common.{◌≡◌, ◌≤◌, ◌∙◌, ℕ, List, [], refl, sym, ap, subst, arith, replicate, slice_set}
-use Rattle.std.specs.Prelude.{Bool, Option, Some, None, Result}
+-- What each step leaves of a scan and of a task that take turns.
+use Rattle.std.proofs.Common.{◌≡◌, ◌≤◌, ◌∙◌, ℕ, List, refl, sym, ap, subst, arith, replicate, slice_set}
+use Rattle.std.specs.Prelude.{Option, Some, None, Result, Ok, Err, OnOk}
 use Rattle.disk_trait.specs.declared.device.Disk.{Ghosts as Disk}
 use Rattle.snap_pins.specs.declared.TheConstants.{PLACES}
 use Rattle.snap_pins.specs.declared.Pin.{Pin}
 use Rattle.snap_pins.specs.Taken.{IsFree}
 use Rattle.buffer_frames.specs.Frames.{FramesValue}
-use Rattle.buffer_frames.specs.Passes.{IsPassOf, IsWhole, HasAdded, HasClaimed, HasPinned, split_of}
+use Rattle.buffer_frames.specs.Passes.{IsPassOf, IsWhole, HasAdded, HasClaimed, HasPinned, PassRises, split_of}
 use Rattle.buffer_frames.specs.declared.pass.Pass.{Pass}
 use Rattle.gin_opclass.specs.Class.{meaning}
 use Rattle.ts_match.specs.Meaning.{Holds}
@@ -20,23 +20,48 @@ use Rattle.gin_scan.specs.TextScans.{IsFor}
 use Rattle.gin_scan.specs.declared.scan.Scan.{Scan}
 use Rattle.gin_place.specs.Placing.{HasRight}
 use Rattle.gin_place.specs.Going.{WorksOn}
-use Rattle.gin_place.specs.Holding.{ReadsOn as ReadsPlaces}
-use Rattle.gin_place.specs.declared.error.PlaceError.{PlaceError}
-use Rattle.gin_cleanup.specs.Cleaning.{IsCleaning}
-use Rattle.gin_cleanup.specs.Going.{CleansOn, HasCleaned}
-use Rattle.gin_cleanup.specs.declared.cleanup.Cleanup.{Cleanup}
-use Rattle.index_cases.specs.Turns.{AreFresh, Scans, Cleans}
+use Rattle.gin_cleanup.specs.Going.{CleansOn}
+use Rattle.gin_vacuum.specs.Going.{VacuumsOn}
+use Rattle.index_cases.specs.Turns.{AreFresh, Scans, LetScan, Grows, MayKeep, Keeps}
+use Rattle.index_cases.specs.declared.upkeep.Upkeep.{Upkeep}
 use Rattle.index_cases.proofs.Rights.{right_stays}
-use Rattle.index_cases.proofs.Turning.{pass_on, seen_still, state_still, flushed_on, other_still, cleaning_still}
-use Rattle.index_cases.proofs.Turning.{one_free}
+use Rattle.index_cases.proofs.Turning.{pass_on, other_still, at_still, one_free}
+
+-- what holds of any result holds of a value
+pub on_ok : {A E : Type 0} (r : Result A E) (X : Type 0) → X → OnOk r X
+on_ok (Ok a) X x = x
+on_ok (Err e) X x = tt
+
+-- ── the pass of a task ──
+
+-- it may go on after a call that keeps its right
+pub may_on : {D : Type 0} (f g : FramesValue D) (p q : Pass) → MayKeep f p → IsPassOf g q → q.held ≡ 0
+    → q.work ≡ p.work → PassRises p q → q.pin ≡ p.pin → q.xid ≡ p.xid → MayKeep g q
+may_on f g p q was is_pass none work rises pin xid = record {
+  is_pass = is_pass;
+  right = right_stays p q was.right work rises.seen;
+  none = none;
+  idle = (pin ∙ was.idle.0, xid ∙ was.idle.1);
+}
+
+pub grows_still : {D : Type 0} (f : FramesValue D) → Grows f f
+grows_still f = record { pins = refl; flushed = omega arith; longer = omega arith }
+
+pub grows_then : {D : Type 0} (f g h : FramesValue D) → Grows f g → Grows g h → Grows f h
+grows_then f g h first second = record {
+  pins = second.pins ∙ first.pins;
+  flushed = omega (arith, first.flushed, second.flushed);
+  longer = omega (arith, first.longer, second.longer);
+}
 
 module _ {D : Type 0} (device : Disk D) where
-  -- the scan, where the cleanup takes a step
-  pub scan_waits : (f g : FramesValue D) (p q q' : Pass) (scan : Scan) (kinds : List ℕ)
-      → ScansGoOn device (meaning asked_of reads_all Holds judged)
-      → CleansOn device f q g q' kinds → Scans device f p scan → Scans device g p scan
-  scan_waits f g p q q' scan kinds law on was =
-      let is = pass_on f g p was.scanning.is_pass was.idle.0 was.idle.1 on.pins on.goes.runs.flushed on.added.longer in
+  -- ── where a task takes a step ──
+
+  -- scans go on
+  pub let_scan : (f g : FramesValue D) (kinds : List ℕ) → ScansGoOn device (meaning asked_of reads_all Holds judged)
+      → HasAdded device f g kinds → g.pins ≡ f.pins → f.journal.flushed ≤ g.journal.flushed → LetScan device f g
+  let_scan f g kinds law added pins flushed = λ p scan was.
+      let is = pass_on f g p was.scanning.is_pass was.idle.0 was.idle.1 pins flushed added.longer in
       record {
         scanning = record {
           is_pass = is;
@@ -47,50 +72,67 @@ module _ {D : Type 0} (device : Disk D) where
           snapshot = was.scanning.snapshot;
         };
         query = was.query;
-        walk = law scan.query.now scan.core f g p p kinds on.added was.scanning.is_pass is refl was.walk;
+        walk = law scan.query.now scan.core f g p p kinds added was.scanning.is_pass is refl was.walk;
         idle = was.idle;
       }
 
-  -- the cleanup itself
-  pub cleanup_steps : (f g : FramesValue D) (q q' : Pass) (from : ℕ) (old new : Cleanup) (r : Result Bool PlaceError)
-      → HasCleaned device f q g q' from old new r → Cleans device f q old → Cleans device g q' new
-  cleanup_steps f g q q' from old new r h was =
-      let on = h.works.2 in
-      record {
-        is_pass = on.is_pass;
-        right = right_stays q q' was.right on.work on.rises.seen;
-        none = h.none_held;
-        idle = (on.pin ∙ was.idle.0, on.xid ∙ was.idle.1);
-        cleaning = (from, h.cleaning);
-      }
+  -- so they do where it only reads, where it cleans and where it vacuums
+  module _ (law : ScansGoOn device (meaning asked_of reads_all Holds judged)) (f g : FramesValue D) (p q : Pass) where
+    pub works_scan : (kinds : List ℕ) → WorksOn device f p g q kinds → LetScan device f g
+    works_scan kinds on = let_scan f g kinds law on.added on.pins on.goes.runs.flushed
 
-  -- the cleanup, where calls log nothing, and a place for a snapshot is left
-  pub cleanup_stays : (f g : FramesValue D) (q : Pass) (c : Cleanup) → AddsNothing device f g
-      → (place : ℕ) × IsFree g.pins place → Cleans device f q c → Cleans device g q c
-  cleanup_stays f g q c adds free was = record {
-    is_pass = other_still device q adds was.is_pass was.idle.0 was.idle.1 free;
-    right = was.right;
-    none = was.none;
-    idle = was.idle;
-    cleaning = (
-      was.cleaning.0,
-      cleaning_still device f g q (seen_still device q adds) was.cleaning.0 c was.cleaning.1,
-    );
+    pub cleans_scan : (kinds : List ℕ) → CleansOn device f p g q kinds → LetScan device f g
+    cleans_scan kinds on = let_scan f g kinds law on.added on.pins on.goes.runs.flushed
+
+    pub vacuums_scan : (kinds : List ℕ) → VacuumsOn device f p g q kinds → LetScan device f g
+    vacuums_scan kinds on = let_scan f g kinds law on.added on.pins on.runs.flushed
+
+  -- its pass may go on
+  module _ (f g : FramesValue D) (p q : Pass) (was : MayKeep f p) (none : q.held ≡ 0) where
+    pub works_may : (kinds : List ℕ) → WorksOn device f p g q kinds → MayKeep g q
+    works_may kinds on = may_on f g p q was on.is_pass none on.work on.rises on.pin on.xid
+
+    pub cleans_may : (kinds : List ℕ) → CleansOn device f p g q kinds → MayKeep g q
+    cleans_may kinds on = may_on f g p q was on.is_pass none on.work on.rises on.pin on.xid
+
+    pub vacuums_may : (kinds : List ℕ) → VacuumsOn device f p g q kinds → MayKeep g q
+    vacuums_may kinds on = may_on f g p q was on.is_pass none on.work on.rises on.pin on.xid
+
+  pub works_grows : (f g : FramesValue D) (p q : Pass) (kinds : List ℕ) → WorksOn device f p g q kinds → Grows f g
+  works_grows f g p q kinds on = record {
+    pins = on.pins;
+    flushed = on.goes.runs.flushed;
+    longer = on.added.longer;
+  }
+
+  -- ── the task, where calls log nothing, and a place for a snapshot is left ──
+
+  pub task_stays : (f g : FramesValue D) (q : Pass) (t : Upkeep) → AddsNothing device f g
+      → (place : ℕ) × IsFree g.pins place → Keeps device f q t → Keeps device g q t
+  task_stays f g q t adds free was = record {
+    silent = was.silent;
+    may = record {
+      is_pass = other_still device q adds was.may.is_pass was.may.idle.0 was.may.idle.1 free;
+      right = was.may.right;
+      none = was.may.none;
+      idle = was.may.idle;
+    };
+    at = at_still device was.silent f g q t.dead t.stage was.at;
   }
 
   -- where the scan takes a step
-  pub cleanup_waits : (f g : FramesValue D) (p p' q : Pass) (c : Cleanup) → ReadsOn device f p g p'
-      → Cleans device f q c → Cleans device g q c
-  cleanup_waits f g p p' q c reads was =
-      cleanup_stays f g q c reads.adds
+  pub task_waits : (f g : FramesValue D) (p p' q : Pass) (t : Upkeep) → ReadsOn device f p g p' → Keeps device f q t
+      → Keeps device g q t
+  task_waits f g p p' q t reads was =
+      task_stays f g q t reads.adds
       (subst (λ (l : List (Option Pin)). (place : ℕ) × IsFree l place) (sym reads.pins)
-      (was.is_pass.free was.idle.0)) was
+      (was.may.is_pass.free was.may.idle.0)) was
 
   -- where the scan begins, by a snapshot, and there was none
-  pub cleanup_shares : (f g : FramesValue D) (p q : Pass) (n : ℕ) (c : Cleanup) → f.pins ≡ replicate PLACES None
-      → HasPinned f g p n → AddsNothing device f g → Cleans device f q c → Cleans device g q c
-  cleanup_shares f g p q n c none pinned adds was =
-      cleanup_stays f g q c adds
+  pub task_shares : (f g : FramesValue D) (p q : Pass) (n : ℕ) (t : Upkeep) → f.pins ≡ replicate PLACES None
+      → HasPinned f g p n → AddsNothing device f g → Keeps device f q t → Keeps device g q t
+  task_shares f g p q n t none pinned adds was =
+      task_stays f g q t adds
       (subst (λ (l : List (Option Pin)). (place : ℕ) × IsFree l place)
       (sym (pinned.pins ∙ ap (λ (l : List (Option Pin)). slice_set l pinned.place (Some (record {
         commits = n;
@@ -100,12 +142,6 @@ module _ {D : Type 0} (device : Disk D) where
         commits = n;
         length = g.journal.state.records;
       })) refl refl)) was
-
-  -- a pass that has not begun, where the cleanup begins
-  pub fresh_waits : (f g : FramesValue D) (p q q' : Pass) → p.xid ≡ None → p.work ≡ None → WorksOn device f q g q' []
-      → IsPassOf f p → IsPassOf g p
-  fresh_waits f g p q q' xid work on was =
-      pass_on f g p was xid work on.pins on.goes.runs.flushed on.added.longer
 
 -- a pass that was made of a whole one has the right, once it claims it
 pub claims : {D : Type 0} (f g : FramesValue D) (p q q' : Pass) → IsWhole f.journal p → q ≡ split_of p
@@ -148,32 +184,33 @@ part_of f p q whole same = record {
   work = ap (λ (x : Pass). x.work) same ∙ ap (λ (x : Pass). x.work) whole;
 }
 
--- the pass of the scan, once the cleanup has begun
-pub part_waits : {D : Type 0} (device : Disk D) (f g h : FramesValue D) (p q q' q'' : Pass) → IsFreshPart p
-    → HasClaimed f g q q' → ReadsPlaces device g q' h q'' → IsPassOf f p → IsPassOf h p
-part_waits device f g h p q q' q'' part claimed reads was =
-    fresh_waits device g h p q' q'' part.xid part.work reads.works
-    (fresh_stays f g p q q' claimed part.work part.xid was)
+-- the pass of the task may keep the index, once it has the right
+pub part_claims : {D : Type 0} (f g : FramesValue D) (p q q' : Pass) → IsWhole f.journal p → q ≡ split_of p
+    → HasClaimed f g q q' → IsPassOf g q' → MayKeep g q'
+part_claims f g p q q' whole split claimed is_pass = record {
+  is_pass = is_pass;
+  right = claims f g p q q' whole split claimed;
+  none = ap (λ (x : Pass). x.held) claimed.pass ∙ ap (λ (x : Pass). x.held) split;
+  idle = (
+    ap (λ (x : Pass). x.pin) claimed.pass ∙ ap (λ (x : Pass). x.pin) split,
+    ap (λ (x : Pass). x.xid) claimed.pass ∙ ap (λ (x : Pass). x.xid) split,
+  );
+}
 
--- and the cleanup, once the scan has
-pub cleanup_begins : {D : Type 0} (device : Disk D) (f g h k : FramesValue D) (p p' p'' q q' q'' : Pass) (n : ℕ)
-    (c : Cleanup) → AreFresh f p → q ≡ split_of p → HasClaimed f g q q' → ReadsPlaces device g q' h q''
-    → q''.held ≡ 0 → (from : ℕ) × IsCleaning device h q'' from c → HasPinned h k p'' n
-    → BeginsReading device h p' k p'' → Cleans device k q'' c
-cleanup_begins device f g h k p p' p'' q q' q'' n c fresh split claimed reads none cleaning pinned begins =
-    let works = reads.works in
-    cleanup_shares device h k p'' q'' n c
-    (works.pins ∙ ap (λ (x : FramesValue _). x.pins) claimed.frames ∙ fresh.pins) pinned begins.adds
-    (record {
-      is_pass = works.is_pass;
-      right = right_stays q' q'' (claims f g p q q' fresh.whole split claimed) works.work works.rises.seen;
-      none = none;
-      idle = (
-        works.pin ∙ ap (λ (x : Pass). x.pin) claimed.pass ∙ ap (λ (x : Pass). x.pin) split,
-        works.xid ∙ ap (λ (x : Pass). x.xid) claimed.pass ∙ ap (λ (x : Pass). x.xid) split,
-      );
-      cleaning = cleaning;
-    })
+-- that of the scan stays one, once the task has begun
+pub part_waits : {D : Type 0} (f g h : FramesValue D) (p q q' : Pass) → IsFreshPart p → HasClaimed f g q q' → Grows g h
+    → IsPassOf f p → IsPassOf h p
+part_waits f g h p q q' part claimed grows was =
+    pass_on g h p (fresh_stays f g p q q' claimed part.work part.xid was) part.xid part.work grows.pins grows.flushed
+    grows.longer
+
+-- and the task goes on, once the scan has begun
+pub task_begins : {D : Type 0} (device : Disk D) (f g h k : FramesValue D) (p p' p'' q q' q'' : Pass) (n : ℕ)
+    (t : Upkeep) → AreFresh f p → HasClaimed f g q q' → Grows g h → Keeps device h q'' t → HasPinned h k p'' n
+    → BeginsReading device h p' k p'' → Keeps device k q'' t
+task_begins device f g h k p p' p'' q q' q'' n t fresh claimed grows keeps pinned begins =
+    task_shares device h k p'' q'' n t
+    (grows.pins ∙ ap (λ (x : FramesValue _). x.pins) claimed.frames ∙ fresh.pins) pinned begins.adds keeps
 
 -- a pass that has begun a scan
 pub scans_begun : {D : Type 0} (device : Disk D) (f : FramesValue D) (p : Pass) (q : Query) (s : Scan)

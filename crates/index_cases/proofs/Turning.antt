@@ -1,33 +1,37 @@
 -- A step of one pass leaves the other what it was.
-use Rattle.std.proofs.Common.{◌≡◌, ◌≢◌, ◌≤◌, ◌<◌, ◌∙◌, ℕ, zero, suc, List, [], ◌∷◌, ◌++◌, length, map, max, refl}
+use Rattle.std.proofs.Common.{◌≡◌, ◌≢◌, ◌≤◌, ◌<◌, ◌∙◌, ℕ, zero, suc, List, length, max, refl}
 use Rattle.std.proofs.Common.{sym, ap, subst, inl, inr, arith}
-use Rattle.std.proofs.lemmas.List.{get_or-set_other, length-set, length-map, length-reverse}
+use Rattle.std.proofs.lemmas.List.{get_or-set_other, length-set}
 use Rattle.std.proofs.lemmas.Option.{slice_get_within, get_or_from_slice_get, slice_get-get_or}
-use Rattle.std.specs.Prelude.{Option, Some, None, Bool, IfSome, slice_set, slice_get, reverse, ⊤}
+use Rattle.std.specs.Prelude.{Option, Some, None, Bool, IfSome, slice_set}
 use Rattle.disk_trait.specs.declared.device.Disk.{Ghosts as Disk}
-use Rattle.page_types.specs.Records.{kind_number}
-use Rattle.page_types.specs.declared.record.Record.{Record}
 use Rattle.ts_base.specs.Keys.{Key}
-use Rattle.core_state.specs.Log.{Log, Pages, In, Shows, cut}
-use Rattle.core_state.specs.Legal.{IsLegal}
+use Rattle.core_state.specs.Log.{Log, Pages}
+use Rattle.core_state.specs.Index.{Pending, Main}
 use Rattle.snap_pins.specs.Taken.{IsPinned, IsFree}
 use Rattle.snap_pins.specs.declared.Pin.{Pin}
-use Rattle.buffer_frames.specs.Frames.{FramesValue, KeepsState, Stands}
-use Rattle.buffer_frames.specs.Passes.{IsPassOf, IsRightOf, HasAdded, Seen, kinds_of, in_use}
+use Rattle.buffer_frames.specs.Frames.{FramesValue, KeepsState}
+use Rattle.buffer_frames.specs.Passes.{IsPassOf, IsRightOf, Seen, in_use}
 use Rattle.buffer_frames.specs.declared.pass.Pass.{Pass}
 use Rattle.buffer_frames.specs.declared.pass.Pinned.{Pinned}
-use Rattle.gin_scan.specs.Calls.{AddsOnce, AddsNothing}
+use Rattle.gin_scan.specs.Calls.{AddsNothing}
 use Rattle.gin_scan.specs.Calls.AddsNothing.{stays, then}
-use Rattle.core_state.specs.Index.{Pending, Main}
 use Rattle.gin_place.specs.Placing.{IsAt as IsPlacedAt, AreLeft as AreStepsLeft, HasRoomAbove, IsPlacing}
 use Rattle.gin_place.specs.Trees.{HasRoomIn, GoesDown, Leads, IsHighIn}
 use Rattle.gin_place.specs.declared.placing.Placing.{Placing}
 use Rattle.gin_place.specs.declared.placing.Stage.{Stage as PlacingStage}
 use Rattle.gin_place.specs.declared.placing.Stage.TheVariants as placing
-use Rattle.gin_cleanup.specs.Cleaning.{IsAt, AreLeft, IsCleaning, IsKeyAt}
+use Rattle.gin_cleanup.specs.Cleaning.{IsAt as IsCleanedAt, AreLeft, IsCleaning, IsKeyAt}
 use Rattle.gin_cleanup.specs.declared.cleanup.Cleanup.{Cleanup}
-use Rattle.gin_cleanup.specs.declared.cleanup.Stage.{Stage}
-use Rattle.gin_cleanup.specs.declared.cleanup.Stage.TheVariants as stage
+use Rattle.gin_cleanup.specs.declared.cleanup.Stage.{Stage as CleanupStage}
+use Rattle.gin_cleanup.specs.declared.cleanup.Stage.TheVariants as cleaning
+use Rattle.gin_vacuum.specs.Sweeping.{IsSweeping}
+use Rattle.gin_vacuum.specs.Freeing.{IsFreeing}
+use Rattle.gin_vacuum.specs.declared.sweeping.Sweeping.{Sweeping}
+use Rattle.gin_vacuum.specs.declared.freeing.Freeing.{Freeing}
+use Rattle.index_cases.specs.Turns.{IsAt}
+use Rattle.index_cases.specs.declared.upkeep.Stage.{Stage}
+use Rattle.index_cases.specs.declared.upkeep.Stage.TheVariants as stage
 
 -- ── a pass without a transaction and without the right stays one where others log ──
 
@@ -54,32 +58,6 @@ pass_on f g p was xid work pins flushed longer = record {
 -- ── calls that log nothing ──
 
 module _ {D : Type 0} (device : Disk D) where
-  no_kinds : (R : Log) → kinds_of R ≡ [] → R ≡ []
-  no_kinds R e = none_in R (length_of R e)
-    where
-      length_of : (S : Log) → kinds_of S ≡ [] → length S ≡ 0
-      length_of S is =
-          sym (length-reverse S) ∙ sym (length-map (reverse S) (λ (r : Record). kind_number r.kind)) ∙ ap length is
-
-      none_in : (S : Log) → length S ≡ 0 → S ≡ []
-      none_in [] is = refl
-      none_in (r ∷ S) is = absurd (omega (arith, is))
-
-  seen_once : (f g : FramesValue D) (p : Pass) (X : Log → Pages → Type 0) → HasAdded device f g []
-      → Seen device f p X → Seen device g p X
-  seen_once f g p X added seen told up R stands legal =
-      let back = added.back told up R stands in
-      let on = back.2 in
-      let same : back.0 ≡ R =
-      sym (on.log_is ∙ ap (λ (l : Log). l ++ back.0) (no_kinds on.added on.kinds_are)) in
-      subst (λ (S : Log). (P : Pages) → Shows (cut p.seen S) P → X (cut p.seen S) P) same
-      (seen told (added.was_up up) back.0 back.1 (subst IsLegal (sym same) legal))
-
-  pub seen_still : {f g : FramesValue D} (p : Pass) → AddsNothing device f g → (X : Log → Pages → Type 0)
-      → Seen device f p X → Seen device g p X
-  seen_still p stays X seen = seen
-  seen_still p (then {mid} {new} adds once) X seen = seen_once mid new p X once.added (seen_still p adds X seen)
-
   pub state_still : {f g : FramesValue D} → AddsNothing device f g → KeepsState f g
   state_still stays = record { state = refl; owes = refl; work = refl }
   state_still (then adds once) =
@@ -134,52 +112,77 @@ module _ {D : Type 0} (device : Disk D) where
             (λ at. (at ≤ n) × IsRightOf f.journal.work (max at p.seen))) (sym count) was.work);
       }
 
-  -- ── a cleanup stays where it was ──
+  -- ── a task stays where it was, where nothing is to be shown of logs ──
 
-  module _ (f g : FramesValue D) (p : Pass) (seen : (X : Log → Pages → Type 0) → Seen device f p X → Seen device g p X)
-    where
-      at_still : (k : Key) (items : List ℕ) (from : ℕ) (s : PlacingStage) → IsPlacedAt device f p k items from s
-          → IsPlacedAt device g p k items from s
-      at_still k items from (placing.At s parent page) is = (is.0, seen (λ S P. Leads P k s page) is.1)
-      at_still k items from placing.Done placed = λ i on. seen (λ S P. Main P k i) (placed i on)
+  module _ (silent : device.tells → ⊥) (f g : FramesValue D) (p : Pass) where
+    unsaid : (X : Log → Pages → Type 0) → Seen device g p X
+    unsaid X = λ told. absurd (silent told)
 
-      left_still : (k : Key) (s : PlacingStage) (o : Option ℕ) → AreStepsLeft device f p k s o
-          → AreStepsLeft device g p k s o
-      left_still k (placing.At s parent page) None is = is
-      left_still k (placing.At s parent page) (Some n) had =
-          seen (λ S P. Leads P k s page × (h : ℕ) × IsHighIn P s h page × (h < n)) had
-      left_still k placing.Done o is = tt
+    placed_still : (k : Key) (items : List ℕ) (from : ℕ) (s : PlacingStage) → IsPlacedAt device f p k items from s
+        → IsPlacedAt device g p k items from s
+    placed_still k items from (placing.At s parent page) is = (is.0, unsaid (λ S P. Leads P k s page))
+    placed_still k items from placing.Done placed = λ i on. unsaid (λ S P. Main P k i)
 
-      above_still : (k : Key) (making : Bool) (s : PlacingStage) → HasRoomAbove device f p k making s
-          → HasRoomAbove device g p k making s
-      above_still k making (placing.At s parent page) had = λ is other.
-          seen (λ S P. Leads P k s parent × GoesDown k s (P parent) page × HasRoomIn s (P parent)) (had is other)
-      above_still k making placing.Done had = tt
+    left_still : (k : Key) (s : PlacingStage) (o : Option ℕ) → AreStepsLeft device f p k s o
+        → AreStepsLeft device g p k s o
+    left_still k (placing.At s parent page) None is = is
+    left_still k (placing.At s parent page) (Some n) had =
+        unsaid (λ S P. Leads P k s page × (h : ℕ) × IsHighIn P s h page × (h < n))
+    left_still k placing.Done o is = tt
 
-      placing_still : (k : Key) (items : List ℕ) (s : Placing) → IsPlacing device f p k items s
-          → IsPlacing device g p k items s
-      placing_still k items s is = (
-        at_still k items s.from s.stage is.0,
-        left_still k s.stage s.left is.1,
-        above_still k s.making_room s.stage is.2,
-        (is.3.0, λ i on. seen (λ S P. Main P k i) (is.3.1 i on)),
-      )
+    above_still : (k : Key) (making : Bool) (s : PlacingStage) → HasRoomAbove device f p k making s
+        → HasRoomAbove device g p k making s
+    above_still k making (placing.At s parent page) had = λ is other.
+        unsaid (λ S P. Leads P k s parent × GoesDown k s (P parent) page × HasRoomIn s (P parent))
+    above_still k making placing.Done had = tt
 
-      key_still : (s : Stage) → IsKeyAt device f p s → IsKeyAt device g p s
-      key_still (stage.Reading page before) is = tt
-      key_still (stage.Placing key items s) is = (is.0, is.1, placing_still key.items items.items s is.2)
-      key_still stage.Shifting is = tt
+    placing_still : (k : Key) (items : List ℕ) (s : Placing) → IsPlacing device f p k items s
+        → IsPlacing device g p k items s
+    placing_still k items s is = (
+      placed_still k items s.from s.stage is.0,
+      left_still k s.stage s.left is.1,
+      above_still k s.making_room s.stage is.2,
+      (is.3.0, λ i on. unsaid (λ S P. Main P k i)),
+    )
 
-      pub cleaning_still : (from : ℕ) (c : Cleanup) → IsCleaning device f p from c → IsCleaning device g p from c
-      cleaning_still from c is = record {
-        began = is.began;
-        at = seen (λ S P. IsAt P c c.stage) is.at;
-        gone = is.gone;
-        linked = λ x on. seen (λ S P. Pending P x.key x.item) (is.linked x on);
-        pairs = is.pairs;
-        placing = key_still c.stage is.placing;
-        left = seen (λ S P. AreLeft from S P c.left) is.left;
-      }
+    key_still : (s : CleanupStage) → IsKeyAt device f p s → IsKeyAt device g p s
+    key_still (cleaning.Reading page before) is = tt
+    key_still (cleaning.Placing key items s) is = (is.0, is.1, placing_still key.items items.items s is.2)
+    key_still cleaning.Shifting is = tt
+
+    cleaning_still : (from : ℕ) (c : Cleanup) → IsCleaning device f p from c → IsCleaning device g p from c
+    cleaning_still from c is = record {
+      began = is.began;
+      at = unsaid (λ S P. IsCleanedAt P c c.stage);
+      gone = is.gone;
+      linked = λ x on. unsaid (λ S P. Pending P x.key x.item);
+      pairs = is.pairs;
+      placing = key_still c.stage is.placing;
+      left = unsaid (λ S P. AreLeft from S P c.left);
+    }
+
+    sweeping_still : (dead : List ℕ) (s : Sweeping) → IsSweeping device f p dead s → IsSweeping device g p dead s
+    sweeping_still dead s is = record {
+      leave = λ told. absurd (silent told);
+      at = λ told. absurd (silent told);
+      high = is.high;
+    }
+
+    freeing_still : (from : ℕ) (dead : List ℕ) (c : Freeing) → IsFreeing device f p from dead c
+        → IsFreeing device g p from dead c
+    freeing_still from dead c is = record {
+      began_at = is.began_at;
+      within = is.within;
+      out = λ told. absurd (silent told);
+      freed = λ told. absurd (silent told);
+    }
+
+    pub at_still : (dead : List ℕ) (s : Stage) → IsAt device f p dead s → IsAt device g p dead s
+    at_still dead stage.Seeking is = tt
+    at_still dead (stage.Cleaning c) is = (is.0, cleaning_still is.0 c is.1)
+    at_still dead (stage.Sweeping s) is = sweeping_still dead s is
+    at_still dead (stage.Freeing c) is = (is.0, freeing_still is.0 dead c is.1)
+    at_still dead stage.Done is = tt
 
 -- ── places for snapshots ──
 

@@ -14,6 +14,7 @@ mod scans;
 mod silent;
 mod stores;
 mod turns;
+mod upkeep;
 mod vacuuming;
 mod working;
 

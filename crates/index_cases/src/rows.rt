@@ -11,10 +11,14 @@
 /// how many bytes. `tree` has a word: it is printed how many items the trees have for it, and how many pages are read,
 /// the leftmost way and all leaves, and so of the word's posting tree. `judge` has a query: it is printed how many
 /// documents the model doesn't leave out, and of how many it is sure without their vector; the log is legal, each
-/// document in one part of the index after each record, and each judged rightly. `turn` has a query: a scan for it and
-/// a cleanup take turns, after each number of its steps with each of some numbers of those of the cleanup before each
-/// other one; it is printed in how many such runs the scan finds something else than alone. `bad` has a query: it is
-/// printed which page a scan for it calls bad. `hold` holds a page.
+/// document in one part of the index after each record, and each judged rightly. `bad` has a query: it is printed which
+/// page a scan for it calls bad. `hold` holds a page.
+///
+/// `turn` has a task and a query: a scan for it and the task take turns, by two passes, after each number of the scan's
+/// steps below that of the row, with each of some numbers of those of the task before each other one; it is printed in
+/// how many such runs the scan finds something else than alone. The task `clean` is a cleanup that has begun before the
+/// scan; `vacuum` is a whole vacuum that begins after it; `sweep` takes out what was dead before the scan began, as far
+/// as it has no linked row, and is then a cleanup.
 ///
 /// `delete` has a number and a query: of the documents that are found the first one is deleted, and then each that is
 /// so many after it; the serial of the last one is printed too. `vacuum` takes out what is dead; its words are those of
@@ -37,6 +41,12 @@
 /// 995 documents of one word make a list of 1000 bytes, and with one more the list is a posting tree. A leaf of it has
 /// room for some 8,100 of these items. 9,000 documents of two words are on 54 heap pages and 16 of the list, so that of
 /// 73 pages there are two for the trees; what comes into them stays there, and the rest comes with more pages.
+///
+/// The word of the first key of `place` is `100000`. In one store its tree is a leaf, the root, with items of 100
+/// documents and others before and after them; with 150 documents more the root grows and the leaf splits. In another
+/// one the others are numbers of slots that heap pages don't have, so that a scan for the word reads these pages and
+/// finds no document there. Three leaves come of them: the second one has items of documents alone that are deleted,
+/// and goes; the third one is all but full, and items of 140 documents more, which lie between its own, split it.
 pub(crate) const ROWS: &str = "\
     new
     insert 1 1 a:1 b:2 | insert of a and b
@@ -147,7 +157,7 @@ pub(crate) const ROWS: &str = "\
     judge 1 1 a | with a to the model
     new
     insert 8 8 long | inserts of long words
-    turn 1 1 !z | without z
+    turn 99 99 clean !z | without z
     clean 1 1 16 | records of a cleanup
     scan 1 1 !z | without z
     clean 1 1 65536 520000 | records of a cleanup
@@ -158,13 +168,61 @@ pub(crate) const ROWS: &str = "\
     judge 1 1 !z | without z to the model
     new
     insert 200 200 | inserts of eight words
-    turn 1 1 w2:* | with a word that begins with w2
-    turn 1 1 w241 & !w5 | with w241 and without w5
+    turn 99 99 clean w2:* | with a word that begins with w2
+    turn 99 99 clean w241 & !w5 | with w241 and without w5
     clean 1 1 | records of a cleanup
     judge 1 1 w2* | with a word that begins with w2 to the model
     new
     insert 996 996 a:1 | inserts of a
-    turn 1 1 a | with a
+    turn 8 8 clean a | with a
+    new
+    insert 8 8 long | inserts of long words
+    delete 1 1 2 !z | deletions of each other one
+    turn 99 99 vacuum !z | without z
+    turn 99 99 sweep !z | without z
+    clean 1 1 | records of a cleanup
+    insert 4 4 long | inserts of long words
+    turn 99 99 vacuum !z | without z
+    turn 99 99 sweep !z | without z
+    new
+    insert 300 300 a:1 | inserts of a
+    clean 1 1 | records of a cleanup
+    delete 1 1 3 a | deletions of each third one
+    insert 30 30 a:1 | inserts of a
+    turn 99 99 vacuum a | with a
+    turn 99 99 sweep a | with a
+    new
+    insert 100 100 100000:1 b:1 | inserts of 100000 and b
+    clean 1 1 | records of a cleanup
+    place 1 1 6 1 3900 1 3900 | records of items before theirs
+    place 1 1 6 2048001 4100 1 4100 | records of items after theirs
+    tree 1 1 100000 | items of 100000
+    insert 150 150 100000:1 b:1 | inserts of both
+    turn 99 99 clean 100000 & b | with both
+    clean 1 1 | records of a cleanup
+    tree 1 1 100000 | items of 100000
+    new
+    insert 360 360 100000:1 b:1 | inserts of 100000 and b
+    clean 1 1 | records of a cleanup
+    place 1 1 6 4253 1891 1 1891 | records of items on page 2
+    place 1 1 6 8349 1700 1 1700 | records of items on page 4
+    insert 4200 4200 100000:1 | inserts of 100000
+    insert 720 720 100000:1 b:1 | inserts of both
+    clean 1 1 | records of a cleanup
+    place 1 1 6 10049 60 1 60 | records of items on page 4
+    place 1 1 6 75933 1891 1 1891 | records of items on page 37
+    place 1 1 6 80029 1891 1 1891 | records of items on page 39
+    place 1 1 6 82077 1891 1 1891 | records of items on page 40
+    place 1 1 6 86173 1650 1 1650 | records of items on page 42
+    place 1 1 6 89064 50 1 50 | records of items on page 43
+    tree 1 1 100000 | items of 100000
+    delete 1 1 1 !b | deletions of those without b
+    insert 140 140 100000:1 b:1 | inserts of both
+    turn 9 9 sweep 100000 | with 100000
+    turn 3 3 vacuum 100000 | with 100000
+    vacuum 1 1 | records of a vacuum
+    tree 1 1 100000 | items of 100000
+    scan 1 1 100000 | with 100000
     new
     insert 2 2 long | inserts of long words
     insert 2 2 a:1 b:1 | inserts of a and b

@@ -1,31 +1,30 @@
-// A scan and a cleanup in turn, by two passes over one store.
+// A scan and a cleanup or a vacuum in turn, by two passes over one store.
 ghost use Rattle.std.specs.Prelude.{◌≡◌, OnOk, IfOk, IfSome, false};
 ghost use Rattle.gin_scan.specs.Scanning.{IsAtEnd};
-ghost use Rattle.index_cases.specs.Turns.{AreFresh, Scans, Cleans};
+ghost use Rattle.index_cases.specs.Turns.{AreFresh, Scans, Keeps};
 
-use crate::rows::Row;
+use crate::rows::{Row, word};
 use crate::silent::Silent;
+use crate::upkeep::{Task, Upkeep};
 use anyhow::{Result, bail};
 use bench_base::Bench;
 use buffer_frames::{Frames, Pass};
 use disk_trait::{Disk, MemoryDisk};
 use engine::{Name, WIDEST};
-use gin_cleanup::Cleanup;
 use gin_place::PlaceError;
-use gin_scan::{Scan, scans_go_on};
+use gin_scan::Scan;
 use std::alloc::Global;
 use std::result;
-use ts_match::MatchWork;
 use ts_query::TsQuery;
 
-/// How many steps of a cleanup come before each further one of a scan, after those that it takes alone: none, one, some
+/// How many steps of the other work come before each further one of a scan, after those that it takes alone: one, some
 /// or all.
-const SHARES: [u32; 6] = [0, 1, 2, 3, 7, 1_000_000];
+const SHARES: [u32; 5] = [1, 2, 3, 7, 1_000_000];
 
-/// More steps than a scan and a cleanup take here.
+/// More steps than a scan and the other work take here.
 const MOST_STEPS: u32 = 1_000_000;
 
-/// In what order steps are taken: so many of the scan, and then so many of the cleanup before each other one.
+/// In what order steps are taken: so many of the scan, and then so many of the other work before each other one.
 #[derive(Clone, Copy)]
 struct Order {
     lead: u32,
@@ -33,8 +32,8 @@ struct Order {
 }
 
 impl Order {
-    /// Whether the step of this number is the cleanup's.
-    fn is_cleanups(self, number: u32) -> bool {
+    /// Whether the step of this number is one of the other work.
+    fn is_others(self, number: u32) -> bool {
         match number.checked_sub(self.lead) {
             Some(later) => later % self.share.saturating_add(1) != self.share,
             None => false,
@@ -42,22 +41,20 @@ impl Order {
     }
 }
 
-/// A scan and a cleanup, and how many steps were taken of each.
+/// A scan and the work beside it, and how many steps were taken of each.
 #[derive(Drop)]
 struct Pair<'a> {
     scan: Scan<'a>,
-    cleanup: Cleanup,
+    upkeep: Upkeep,
     /// The steps of the scan.
     steps: u32,
-    /// Those of the cleanup.
-    cleaned: u32,
-    // whether the cleanup has more
-    cleans: bool,
+    /// Those of the work beside it.
+    beside: u32,
 }
 
 impl<'a> Pair<'a> {
-    /// Takes a step of the cleanup.
-    fn clean<D: Disk>(
+    /// Takes a step of the work beside the scan.
+    fn keep_up<D: Disk>(
         &mut self,
         alloc: Global,
         frames: &mut Frames<D>,
@@ -65,14 +62,12 @@ impl<'a> Pair<'a> {
         other: &mut Pass,
     ) -> result::Result<(), PlaceError>
         requires scans { Scans D.Disk frames.old pass.now self.old.scan }
-        requires cleans { Cleans D.Disk frames.old other.old self.old.cleanup }
+        requires keeps { Keeps D.Disk frames.old other.old self.old.upkeep }
         ensures scans { OnOk result (Scans D.Disk frames.new pass.now self.new.scan) }
-        ensures cleans { OnOk result (Cleans D.Disk frames.new other.new self.new.cleanup) }
+        ensures keeps { OnOk result (Keeps D.Disk frames.new other.new self.new.upkeep) }
     {
-        scans_go_on::<D, TsQuery, MatchWork>();
-        let more = self.cleanup.step(alloc, frames, other)?;
-        self.cleans = more;
-        self.cleaned = self.cleaned.saturating_add(1);
+        self.upkeep.step(alloc, frames, other)?;
+        self.beside = self.beside.saturating_add(1);
         Ok(())
     }
 
@@ -85,9 +80,9 @@ impl<'a> Pair<'a> {
         other: &Pass,
     ) -> result::Result<bool, PlaceError>
         requires scans { Scans D.Disk frames.old pass.old self.old.scan }
-        requires cleans { Cleans D.Disk frames.old other.now self.old.cleanup }
+        requires keeps { Keeps D.Disk frames.old other.now self.old.upkeep }
         ensures scans { OnOk result (Scans D.Disk frames.new pass.new self.new.scan) }
-        ensures cleans { OnOk result (Cleans D.Disk frames.new other.now self.new.cleanup) }
+        ensures keeps { OnOk result (Keeps D.Disk frames.new other.now self.new.upkeep) }
         ensures end { IfOk result (λ more. more ≡ false → IsAtEnd self.new.scan.core) }
     {
         let more = self.scan.step(alloc, frames, pass)?;
@@ -95,24 +90,24 @@ impl<'a> Pair<'a> {
         Ok(more)
     }
 
-    /// Takes a step of the cleanup, if it is its turn and it has more, or else of the scan: false where that was the
-    /// scan's last.
+    /// Takes a step of the work beside the scan, if it is its turn and it has more, or else of the scan: false where
+    /// that was the scan's last.
     fn step<D: Disk>(
         &mut self,
         alloc: Global,
         frames: &mut Frames<D>,
         pass: &mut Pass,
         other: &mut Pass,
-        is_cleanups: bool,
+        is_others: bool,
     ) -> result::Result<bool, PlaceError>
         requires scans { Scans D.Disk frames.old pass.old self.old.scan }
-        requires cleans { Cleans D.Disk frames.old other.old self.old.cleanup }
+        requires keeps { Keeps D.Disk frames.old other.old self.old.upkeep }
         ensures scans { OnOk result (Scans D.Disk frames.new pass.new self.new.scan) }
-        ensures cleans { OnOk result (Cleans D.Disk frames.new other.new self.new.cleanup) }
+        ensures keeps { OnOk result (Keeps D.Disk frames.new other.new self.new.upkeep) }
         ensures end { IfOk result (λ more. more ≡ false → IsAtEnd self.new.scan.core) }
     {
-        if is_cleanups && self.cleans {
-            self.clean(alloc, frames, pass, other)?;
+        if is_others && !self.upkeep.is_done() {
+            self.keep_up(alloc, frames, pass, other)?;
             return Ok(true);
         }
         self.scan_on(alloc, frames, pass, other)
@@ -128,13 +123,13 @@ impl<'a> Pair<'a> {
         order: Order,
     ) -> result::Result<(), PlaceError>
         requires scans { Scans D.Disk frames.old pass.old self.old.scan }
-        requires cleans { Cleans D.Disk frames.old other.old self.old.cleanup }
+        requires keeps { Keeps D.Disk frames.old other.old self.old.upkeep }
         ensures scans { OnOk result (Scans D.Disk frames.new pass.new self.new.scan) }
         ensures end { OnOk result (IsAtEnd self.new.scan.core) }
     {
         for number in 0..MOST_STEPS {
-            let is_cleanups = order.is_cleanups(number);
-            if !self.step(alloc, frames, pass, other, is_cleanups)? {
+            let is_others = order.is_others(number);
+            if !self.step(alloc, frames, pass, other, is_others)? {
                 return Ok(());
             }
         }
@@ -142,27 +137,28 @@ impl<'a> Pair<'a> {
     }
 }
 
-/// A scan for a query, and a cleanup with a pass of its own.
+/// A scan for a query, and a task with a pass of its own.
 fn begin<'a, D: Disk>(
     alloc: Global,
     frames: &mut Frames<D>,
     pass: &mut Pass,
     query: &'a TsQuery,
+    task: Task,
 ) -> result::Result<(Pass, Pair<'a>), PlaceError>
+    requires silent { D.Disk.tells → ⊥ }
     requires fresh { AreFresh frames.old pass.old }
     ensures scans { IfOk result (λ x. Scans D.Disk frames.new pass.new (x.1).scan) }
-    ensures cleans { IfOk result (λ x. Cleans D.Disk frames.new x.0 (x.1).cleanup) }
+    ensures keeps { IfOk result (λ x. Keeps D.Disk frames.new x.0 (x.1).upkeep) }
 {
     let mut other = frames.split(pass);
     frames.claim_work(&mut other);
-    let cleanup = Cleanup::begin(alloc, frames, &mut other)?;
+    let upkeep = Upkeep::begin(alloc, frames, &mut other, task)?;
     let scan = Scan::begin(alloc, frames, pass, query)?;
     let pair = Pair {
         scan,
-        cleanup,
+        upkeep,
         steps: 0,
-        cleaned: 0,
-        cleans: true,
+        beside: 0,
     };
     Ok((other, pair))
 }
@@ -174,33 +170,35 @@ struct Turns {
     names: Vec<Name>,
     /// The steps of the scan.
     steps: u32,
-    /// Those of the cleanup.
-    cleaned: u32,
+    /// Those of the work beside it.
+    beside: u32,
 }
 
-/// What a scan for a query finds that takes turns with a cleanup.
+/// What a scan for a query finds that takes turns with a task.
 fn take_turns<D: Disk>(
     alloc: Global,
     frames: &mut Frames<D>,
     pass: &mut Pass,
     query: &TsQuery,
+    task: Task,
     order: Order,
 ) -> result::Result<Turns, PlaceError>
+    requires silent { D.Disk.tells → ⊥ }
     requires fresh { AreFresh frames.old pass.old }
 {
-    let (mut other, mut pair) = begin(alloc, frames, pass, query)?;
+    let (mut other, mut pair) = begin(alloc, frames, pass, query, task)?;
     pair.go_on(alloc, frames, pass, &mut other, order)?;
     let Pair {
         scan,
         steps,
-        cleaned,
+        beside,
         ..
     } = pair;
     let names = scan.finish(frames, pass).names;
     Ok(Turns {
         names,
         steps,
-        cleaned,
+        beside,
     })
 }
 
@@ -215,21 +213,27 @@ fn fresh(alloc: Global, disk: Silent) -> Option<(Frames<Silent>, Pass)>
 }
 
 /// What such a scan finds over what is synced of a device.
-fn turns_on(alloc: Global, disk: &MemoryDisk, query: &TsQuery, order: Order) -> Option<Turns> {
+fn turns_on(
+    alloc: Global,
+    disk: &MemoryDisk,
+    query: &TsQuery,
+    task: Task,
+    order: Order,
+) -> Option<Turns> {
     let image = disk.image(alloc, disk.calls(), 0).ok()?;
     let (mut frames, mut pass) = fresh(alloc, Silent(image))?;
-    take_turns(alloc, &mut frames, &mut pass, query, order).ok()
+    take_turns(alloc, &mut frames, &mut pass, query, task, order).ok()
 }
 
-/// Counts of runs in which a scan and a cleanup take turns.
+/// Counts of runs in which a scan and a task take turns.
 #[derive(Clone, Copy, Default)]
 struct Counts {
     /// The runs.
     runs: u64,
     /// Those in which the scan finds other names than alone, or is refused.
     differ: u64,
-    /// The most steps of the cleanup.
-    cleaned: u32,
+    /// The most steps of the task.
+    beside: u32,
 }
 
 impl Counts {
@@ -238,7 +242,7 @@ impl Counts {
         self.runs = self.runs.saturating_add(1);
         match turns {
             Some(turns) if turns.names.as_slice() == alone => {
-                self.cleaned = self.cleaned.max(turns.cleaned);
+                self.beside = self.beside.max(turns.beside);
             }
             _ => self.differ = self.differ.saturating_add(1),
         }
@@ -250,33 +254,38 @@ impl Counts {
         alloc: Global,
         disk: &MemoryDisk,
         query: &TsQuery,
+        task: Task,
         lead: u32,
         alone: &[Name],
     ) {
         for share in SHARES {
-            self.note(turns_on(alloc, disk, query, Order { lead, share }), alone);
+            let order = Order { lead, share };
+            self.note(turns_on(alloc, disk, query, task, order), alone);
         }
     }
 }
 
-/// Prints how many names a scan for the query of a row finds, alone and in turn with a cleanup: in how many runs, how
-/// many find other names, and how many steps a cleanup takes at most.
+/// Prints how many names a scan for the query of a row finds, alone and in turn with the task of its first word: in how
+/// many runs, how many find other names, and how many steps the task takes at most. The scan takes none, one or more
+/// steps alone first, each number below that of the row.
 pub(crate) fn run(bench: &Bench<'_>, disk: &MemoryDisk, row: Row<'_>) -> Result<()> {
     let alloc = bench.alloc();
-    let query = TsQuery::parse(alloc, row.words)?;
+    let (name, text) = word(row.words);
+    let task = Task::of(name);
+    let query = TsQuery::parse(alloc, text)?;
     let alone = Order {
         lead: MOST_STEPS,
         share: 0,
     };
-    let Some(alone) = turns_on(alloc, disk, &query, alone) else {
+    let Some(alone) = turns_on(alloc, disk, &query, task, alone) else {
         bail!("a scan is refused");
     };
     let mut counts = Counts::default();
-    for lead in 0..alone.steps {
-        counts.note_shares(alloc, disk, &query, lead, &alone.names);
+    for lead in 0..alone.steps.min(row.times(bench.is_timed())) {
+        counts.note_shares(alloc, disk, &query, task, lead, &alone.names);
     }
     bench.count(alone.names.len() as u64, row.title)?;
-    bench.count(counts.runs, "runs in turn with a cleanup")?;
+    bench.count(counts.runs, "runs in turn")?;
     bench.count(counts.differ, "of them find something else")?;
-    bench.count(u64::from(counts.cleaned), "steps of a cleanup at most")
+    bench.count(u64::from(counts.beside), "steps beside the scan at most")
 }

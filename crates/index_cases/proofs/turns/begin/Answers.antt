@@ -1,7 +1,7 @@
--- The pass is made two, of which one claims the right and begins the cleanup, and the other takes a snapshot.
+-- The pass is made two, of which one claims the right and begins the task, and the other takes a snapshot.
 use Rattle.std.proofs.Common.{◌∙◌, ap, arith}
 use Rattle.buffer_frames.specs.declared.pass.Pass.{Pass}
-use Rattle.index_cases.proofs.TurnSteps.{claims, part_of, part_waits, scans_begun, cleanup_begins}
+use Rattle.index_cases.proofs.TurnSteps.{part_of, part_claims, part_waits, scans_begun, task_begins}
 use Rattle.index_cases.proofs.turns.begin.Goals as goal
 
 pub split-other-requires-clause-room : goal.split-other-requires-clause-room
@@ -11,22 +11,17 @@ split-other-requires-clause-room g c =
 pub split-other-requires-clause-none : goal.split-other-requires-clause-none
 split-other-requires-clause-none g c = ap (λ (x : Pass). x.pin) c.requires.fresh.whole
 
-pub begin-requires-clause-right : goal.begin-requires-clause-right
-begin-requires-clause-right g c =
-    claims c.args.frames.now c.claim_work.new.self c.args.pass.now c.split-other.result c.claim_work.new.pass
-    c.requires.fresh.whole c.split-other.ensures.value c.claim_work.ensures.claimed
-
-pub begin-requires-clause-none : goal.begin-requires-clause-none
-begin-requires-clause-none g c =
-    ap (λ (x : Pass). x.held) c.claim_work.ensures.claimed.pass
-    ∙ ap (λ (x : Pass). x.held) c.split-other.ensures.value
+pub begin-requires-clause-may : goal.begin-requires-clause-may
+begin-requires-clause-may g c =
+    part_claims c.args.frames.now c.claim_work.new.self c.args.pass.now c.split-other.result c.claim_work.new.pass
+    c.requires.fresh.whole c.split-other.ensures.value c.claim_work.ensures.claimed c.claim_work.ensures.pass
 
 pub begin-requires-2-clause-pass : goal.begin-requires-2-clause-pass
 begin-requires-2-clause-pass g c =
-    part_waits g.D.Disk c.args.frames.now c.claim_work.new.self c.begin.new.frames c.split-other.new.pass
-    c.split-other.result c.claim_work.new.pass c.begin.new.pass
+    part_waits c.args.frames.now c.claim_work.new.self c.begin.new.frames c.split-other.new.pass c.split-other.result
+    c.claim_work.new.pass
     (part_of c.args.frames.now c.args.pass.now c.split-other.new.pass c.requires.fresh.whole
-    c.split-other.ensures.room.0) c.claim_work.ensures.claimed c.begin.ensures.reads c.split-other.ensures.old
+    c.split-other.ensures.room.0) c.claim_work.ensures.claimed c.in_ok-upkeep.ensures.grows c.split-other.ensures.old
 
 pub begin-requires-2-clause-none : goal.begin-requires-2-clause-none
 begin-requires-2-clause-none g c =
@@ -47,11 +42,10 @@ returns-clause-scans g c =
     scans_begun g.D.Disk c.begin-2.new.frames c.begin-2.new.pass c.args.query.now c.in_ok-scan.scan e.scanning e.query
     e.walk (keeps.xid ∙ part.xid, keeps.work ∙ part.work)
 
-pub returns-clause-cleans : goal.returns-clause-cleans
-returns-clause-cleans g c =
-    cleanup_begins g.D.Disk c.args.frames.now c.claim_work.new.self c.begin.new.frames c.begin-2.new.frames
+pub returns-clause-keeps : goal.returns-clause-keeps
+returns-clause-keeps g c =
+    task_begins g.D.Disk c.args.frames.now c.claim_work.new.self c.begin.new.frames c.begin-2.new.frames
     c.args.pass.now c.split-other.new.pass c.begin-2.new.pass c.split-other.result c.claim_work.new.pass
-    c.begin.new.pass c.in_ok-scan.scan.core.snapshot c.in_ok-cleanup.cleanup c.requires.fresh
-    c.split-other.ensures.value c.claim_work.ensures.claimed c.begin.ensures.reads c.begin.ensures.none_held
-    (c.in_ok-cleanup.ensures.cleaning.0, c.in_ok-cleanup.ensures.cleaning.2) c.in_ok-scan.ensures.pinned
-    c.begin-2.ensures.reads
+    c.begin.new.pass c.in_ok-scan.scan.core.snapshot c.in_ok-upkeep.upkeep c.requires.fresh
+    c.claim_work.ensures.claimed c.in_ok-upkeep.ensures.grows c.in_ok-upkeep.ensures.keeps
+    c.in_ok-scan.ensures.pinned c.begin-2.ensures.reads

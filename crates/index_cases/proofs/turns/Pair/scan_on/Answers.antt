@@ -1,8 +1,8 @@
--- A step of the scan leaves the cleanup what it was.
+-- A step of the scan leaves the task what it was.
 use Rattle.std.proofs.Common.{◌∙◌, sym, subst}
 use Rattle.gin_scan.specs.Scanning.{IsAtEnd}
 use Rattle.gin_scan.specs.declared.scan_core.ScanCore.{ScanCore}
-use Rattle.index_cases.proofs.TurnSteps.{cleanup_waits}
+use Rattle.index_cases.proofs.TurnSteps.{task_waits}
 use Rattle.index_cases.proofs.turns.Pair.scan_on.Goals as goal
 
 pub returns-clause-scans : goal.returns-clause-scans
@@ -16,10 +16,10 @@ returns-clause-scans g c =
       idle = (e.reads.keeps.xid ∙ was.0, e.reads.keeps.work ∙ was.1);
     }
 
-pub returns-clause-cleans : goal.returns-clause-cleans
-returns-clause-cleans g c =
-    cleanup_waits g.D.Disk c.args.frames.now c.step.new.frames c.args.pass.now c.step.new.pass c.args.other.now
-    c.args.self.now.cleanup c.step.ensures.reads c.requires.cleans
+pub returns-clause-keeps : goal.returns-clause-keeps
+returns-clause-keeps g c =
+    task_waits g.D.Disk c.args.frames.now c.step.new.frames c.args.pass.now c.step.new.pass c.args.other.now
+    c.args.self.now.upkeep c.step.ensures.reads c.requires.keeps
 
 pub returns-clause-end : goal.returns-clause-end
 returns-clause-end g c = λ e.
