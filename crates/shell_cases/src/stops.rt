@@ -1,4 +1,5 @@
-// What runs of inserts, updates and deletes leave on a device, where a crash or a failing call cuts them short.
+// What runs of inserts, updates, deletes and a vacuum leave on a device, where a crash or a failing call cuts them
+// short.
 use crate::runs::{Ended, Shell, image_at, only};
 use crate::short::expanded;
 use crate::tally::Tally;
@@ -8,6 +9,7 @@ use std::sync::Wait;
 use std::thread::Threads;
 
 /// Statements over documents that `GO_ON` finds, from an empty store on. The second document's rows are on three pages.
+/// The vacuum frees four slots, and the insert after it takes the first of them.
 const STATEMENTS: &str = "@1 insert vector 'a:1'
 @1 insert vector 'a:2 {0~7~@~ }'
 @1 update 2/0#1 vector 'a:3'
@@ -15,12 +17,17 @@ const STATEMENTS: &str = "@1 insert vector 'a:1'
 @1 insert vector 'a:4'
 @1 update 2/2#3 vector 'a:5'
 @1 delete 2/3#4
+@1 vacuum
+@1 insert vector 'a:6'
 ";
 
 /// How many of them a first run has; a second one has the others.
 const FIRST: usize = 4;
 
-const SECOND: usize = 3;
+const SECOND: usize = 5;
+
+/// The one of them whose records are on the device only when the next one's are.
+const VACUUM: &[u8] = b"@1 vacuum\n";
 
 /// What a statement prints where a call of the device fails.
 const FAILED_REPLY: &[u8] = b"@1 error 15 device\n";
@@ -45,6 +52,10 @@ const REPLIES: &str = "@1 found
 @1 ok 2/5#6
 ;@1 found 2/4#5
 @1 ok 2/5#6
+;@1 found 2/4#5
+@1 ok 2/0#6
+;@1 found 2/4#5 2/0#6
+@1 ok 2/1#7
 ";
 
 /// What is after so many lines of a text.
@@ -112,20 +123,21 @@ where
     run.status == 0 && is_printed(run.out.bytes(), least, more)
 }
 
-/// Whether a stop at a moment leaves what a beginning of the statements leaves, which has each that was answered by
-/// then, and no other but the one that was under way, and a run goes on from there.
+/// Whether a stop at a moment leaves what a beginning of the statements leaves, at least so many and at most so many
+/// more, and a run goes on from there.
 fn stops_so<R>(
     shell: &Shell<'_, R>,
     disk: &MemoryDisk,
     moment: u64,
     pick: u64,
-    answered: usize,
+    least: usize,
+    more: usize,
 ) -> bool
 where
     R: Threads + Wait + Sync + AllocGlobal,
 {
     match image_at(shell.alloc(), disk, moment, pick) {
-        Some(image) => goes_on(shell, image, answered, 1),
+        Some(image) => goes_on(shell, image, least, more),
         None => false,
     }
 }
@@ -154,7 +166,13 @@ fn answered_by(ends: &[u64], moment: u64) -> usize {
     count
 }
 
-/// A stop at each moment of a run of inserts, an update and a delete, and of a second one.
+/// How many of so many statements that were answered wait for the next one's records: one, where the last is a vacuum.
+fn waiting(text: &str, answered: usize) -> usize {
+    usize::from(lines_after(text, answered.saturating_sub(1), 1) == VACUUM)
+}
+
+/// A stop at each moment of a run of inserts, an update and a delete, and of a second one with a vacuum too. Each
+/// statement that was answered by then is there, but for one that waits, and no other but the one that was under way.
 fn see_each_stop<R>(shell: &Shell<'_, R>, text: &str, tally: &mut Tally)
 where
     R: Threads + Wait + Sync + Print + AllocGlobal,
@@ -163,8 +181,17 @@ where
     let ended = run_after(shell, text, Vec::new(shell.alloc()), FIRST, SECOND);
     for moment in 0..=ended.store.calls() {
         let answered = answered_by(&ends, moment);
+        let waits = waiting(text, answered);
+        let least = answered.saturating_sub(waits);
         for pick in 0..16 {
-            let holds = stops_so(shell, &ended.store, moment, pick, answered);
+            let holds = stops_so(
+                shell,
+                &ended.store,
+                moment,
+                pick,
+                least,
+                waits.saturating_add(1),
+            );
             tally.see(shell.rt, holds, "a stop at moment", moment);
         }
     }
