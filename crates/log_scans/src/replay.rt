@@ -110,8 +110,8 @@ impl Replay {
         }
     }
 
-    /// A record that leaves these pages may follow with the pin's commits as floor, and past the pin without a page that
-    /// was deleted since.
+    /// A record that leaves these pages may follow with the pin's commits as floor, and past the pin without a page
+    /// that was deleted since.
     fn must_follow(&self, record: &Record, left: &[LeftPage]) -> Result<(), Fault> {
         let terms = Terms {
             floor: self.pin.commits,

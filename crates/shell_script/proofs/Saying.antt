@@ -5,7 +5,8 @@ use Rattle.std.specs.Str.{IsUtf8}
 use Rattle.shell_script.specs.Tokens.{ScriptToken, word, quote, IsSpelled}
 use Rattle.shell_script.specs.Grammar.{QuerySource, Expr, Statement, insert, update, delete, search, clean_up, show}
 use Rattle.shell_script.specs.Grammar.{vacuum, ask, parse, list_commits, define, invalid, IsSession, HasSession, IsExpr}
-use Rattle.shell_script.specs.Grammar.{IsQuery, IsNamed, label, expr_tokens, query_tokens, body_tokens, statement_tokens}
+use Rattle.shell_script.specs.Grammar.{IsQuery, IsNamed, label, expr_tokens, query_tokens, body_tokens}
+use Rattle.shell_script.specs.Grammar.{statement_tokens}
 use Rattle.shell_script.specs.Inner.Fronts.{Fronts}
 use Rattle.shell_script.specs.Inner.Said.{IsOfSession, IsPlain, IsStatementBody, IsSaidBehind}
 use Rattle.shell_script.specs.Docs.{Doc, IsDoc}
