@@ -1,12 +1,12 @@
 -- A leaf with an entry that leads to a posting tree: how many bytes it has, that it has an encoding, and the entry
 -- between the others.
-use Rattle.std.proofs.Common.{◌≡◌, ℕ, zero, suc, ◌+◌, ◌*◌, ◌<◌, ◌≤◌, List, [], ◌∷◌, ◌++◌, length, take, drop, refl, sym}
+use Rattle.std.proofs.Common.{◌≡◌, ℕ, zero, suc, ◌+◌, ◌<◌, ◌≤◌, List, [], ◌∷◌, ◌++◌, length, take, drop, sym}
 use Rattle.std.proofs.Common.{ap, subst, ◌∙◌, arith}
 use Rattle.std.specs.Prelude.{Some}
 use Rattle.std.specs.List.{AllByRecursion, slice_get}
 use Rattle.page_types.specs.Numbers.{most_body, page_limit}
 use Rattle.page_types.specs.Keys.{KeyLess, Rising}
-use Rattle.page_types.specs.Pages.{IsPage, IsBody, IsEntry, AreEntries, ArePostings}
+use Rattle.page_types.specs.Pages.{IsPage, IsBody, IsEntry, ArePostings}
 use Rattle.page_types.specs.Encoding.{entry_bytes, body_bytes}
 use Rattle.page_types.specs.Views.{with_postings, entries_in}
 use Rattle.page_types.specs.declared.page.Page.{Page}

@@ -38,7 +38,7 @@ pub enum Added {
 }
 
 /// Where a key is on a leaf, or belongs.
-#[derive(Clone, Copy, Debug)]
+#[derive(Clone, Copy)]
 struct Spot<'a> {
     /// The number of its entry.
     place: usize,

@@ -9,7 +9,7 @@ use gin_opclass::{CompareKeys, Judge, Meaning, OpClass};
 use page_types::{Entries, EntryChildren};
 
 /// The keys of a leaf's entries, or the bounds of an inner page's children, by reference.
-#[derive(Clone, Copy, Debug)]
+#[derive(Clone, Copy)]
 pub(crate) enum Marks<'a> {
     /// The keys of these entries.
     Keys(&'a Entries),

@@ -1,13 +1,11 @@
-use Rattle.std.proofs.Common.{◌≡◌, ℕ, ◌<◌, List, length, refl, sym, ap, subst, ◌∙◌, arith, rules}
+use Rattle.std.proofs.Common.{◌≡◌, ◌<◌, List, length, refl, sym, ap, subst, ◌∙◌, arith, rules}
 use Rattle.std.proofs.lemmas.Grind.{common_steps}
 use Rattle.std.proofs.lemmas.Option.{slice_get_within}
 use Rattle.page_types.specs.Pages.{IsPage}
 use Rattle.page_types.specs.Views.{with_postings}
-use Rattle.page_types.specs.declared.page.Page.{Page}
 use Rattle.page_types.specs.declared.page.Entry.{Entry}
 use Rattle.page_types.specs.declared.page.Postings.TheVariants.{Root}
 use Rattle.entry_tree.specs.Adding.{list_entry}
-use Rattle.entry_tree.specs.Rooting.{rooted}
 use Rattle.entry_tree.proofs.RootedPages.{rooted_size, rooted_page, list_within, there_in, made_rooted}
 use Rattle.entry_tree.proofs.rooting.root_at.Goals as goal
 
