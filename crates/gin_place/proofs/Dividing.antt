@@ -8,6 +8,7 @@ use Rattle.page_types.specs.Keys.{Rising}
 use Rattle.page_types.specs.Pages.{IsPage}
 use Rattle.page_types.specs.Records.{IsKind, kind_number}
 use Rattle.page_types.specs.declared.page.Page.{Page}
+use Rattle.page_types.specs.declared.page.Body.TheVariants as body
 use Rattle.page_types.specs.declared.record.Kind.{Kind}
 use Rattle.page_types.specs.declared.record.Kind.TheVariants as kind
 use Rattle.page_types.specs.declared.record.Record.{Record}
@@ -29,10 +30,33 @@ use Rattle.buffer_frames.specs.declared.pass.Pass.{Pass}
 use Rattle.gin_place.specs.Going.{IsPlacingKind}
 use Rattle.gin_place.specs.Placing.{HasRight}
 use Rattle.gin_place.specs.Holding.{IsNewHeld}
-use Rattle.gin_place.specs.Inner.Logging.{MayLogStep, AreSplitIn, IsSplitStep}
+use Rattle.gin_place.specs.Inner.Dividing.{AreSplit}
+use Rattle.gin_place.specs.Inner.Logging.{MayLogStep, Adopts, AreSplitIn, IsSplitStep}
 use Rattle.gin_place.specs.declared.sought.Sought.{Sought}
 use Rattle.gin_place.specs.declared.sought.Sought.TheVariants as sought
 use Rattle.gin_place.proofs.Owing.{owes_of}
+
+adopted_used : (t : Sought) (page new : ℕ) (left parent adopted : Page) → Adopts t page new left parent adopted
+    → adopted.body ≢ body.Free
+adopted_used sought.Key page new left parent adopted x e = let both = x.after in let z : ⊥ = cc in z
+adopted_used (sought.Item root item) page new left parent adopted x e = let both = x.after in let z : ⊥ = cc in z
+
+-- the parts with the parent that takes the new page
+pub parts_in : (t : Sought) (old new above : Sheet) (left right adopted : Page)
+    → AreSplit t old.content new.page left right → Adopts t old.page new.page left above.content adopted
+    → adopted ≡ record above.content { body = adopted.body } → IsPage adopted
+    → AreSplitIn t old new above left right adopted
+parts_in t old new above left right adopted x adopts same is_page = record {
+  keep = x.keep;
+  was = x.was;
+  on_tree = x.on_tree;
+  large = x.large;
+  parts = x.parts;
+  adopts = adopts;
+  same = same;
+  pages = (x.pages.0, x.pages.1, is_page);
+  used = (x.used.0, x.used.1, adopted_used t old.page new.page left above.content adopted adopts);
+}
 
 -- the step of these three pages
 pub split_made : (t : Sought) (old new above : Sheet) (left right adopted : Page) (s : Step)

@@ -1,6 +1,6 @@
 -- What holds where a call was answered, or refused.
-use Rattle.std.proofs.Common.{Result, Ok, Err}
-use Rattle.std.specs.Prelude.{OnOk, OnErr, IfOk, IfErr}
+use Rattle.std.proofs.Common.{◌≡◌, Result, Ok, Err, subst}
+use Rattle.std.specs.Prelude.{Option, Some, None, IfSome, IfNone, OnOk, OnErr, IfOk, IfErr}
 
 pub on_ok : {T E : Type 0} (r : Result T E) (P Q : Type 0) → (P → Q) → OnOk r P → OnOk r Q
 on_ok (Ok x) P Q f p = f p
@@ -17,3 +17,9 @@ if_ok (Err e) P Q f p = tt
 pub if_err : {T E : Type 0} (r : Result T E) (P Q : E → Type 0) → ((e : E) → P e → Q e) → IfErr r P → IfErr r Q
 if_err (Ok x) P Q f p = tt
 if_err (Err e) P Q f p = f e p
+
+pub in_some : {A : Type 0} (o : Option A) (x : A) (P : A → Type 0) → o ≡ Some x → IfSome o P → P x
+in_some o x P is p = subst (λ (r : Option _). IfSome r P) is p
+
+pub in_none : {A : Type 0} (o : Option A) (P : Type 0) → o ≡ None → IfNone o P → P
+in_none o P is p = subst (λ (r : Option _). IfNone r P) is p

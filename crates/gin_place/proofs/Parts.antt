@@ -82,14 +82,15 @@ halves_on (sought.Item root item) _ _ _ (Halves.of_post_leaf high mid items fron
 halves_on (sought.Item root item) _ left right (Halves.of_post_inner mid children h) is =
     post_halves mid (body.PostInner children) left right h
 
-pub are_split : (t : Sought) (c : Page) (new : ℕ) (keep : Keep) (left right : Page) → IsTreeBody t c.body
+pub are_split : (t : Sought) (c : Page) (new : ℕ) (keep : Keep) (left right : Page) → IsPage c → IsTreeBody t c.body
     → half_body < length (body_bytes c.body) → new ≢ 0 → AreParts c new keep left right
     → IsPage left × IsPage right → AreSplit t c new left right
-are_split t c new keep left right is large some parts pages =
+are_split t c new keep left right was is large some parts pages =
     let both = halves_on t c.body left.body right.body
     (cut_divides (body_cutting c.body) left.body right.body keep parts.cut) is in
     let link : left.right ≡ new = ap (λ (p : Page). p.right) parts.left_is in
     record {
+      was = was;
       on_tree = is;
       large = large;
       keep = keep;

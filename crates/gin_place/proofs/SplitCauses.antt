@@ -15,7 +15,7 @@ use Rattle.buffer_frames.specs.declared.pass.Pass.{Pass}
 use Rattle.gin_place.specs.Adopting.{CanTake, CanTakeItem}
 use Rattle.gin_place.specs.Causes.{Finds, CannotUse, CannotAdopt, IsBadRoom, IsWhy}
 use Rattle.gin_place.specs.Faults.{MetNoFault, FaultBy}
-use Rattle.gin_place.specs.Inner.Dividing.{AreSplit, Takes, WhyNoSplit}
+use Rattle.gin_place.specs.Inner.Dividing.{AreSplit, Takes, WhyNotTaken, WhyNotDivided, WhyNoSplit}
 use Rattle.gin_place.specs.Trees.{root_of}
 use Rattle.gin_place.specs.declared.sought.Sought.{Sought}
 use Rattle.gin_place.specs.declared.sought.Sought.TheVariants as sought
@@ -71,6 +71,23 @@ module _ {D : Type 0} (device : Disk D) (f : FramesValue D) (p : Pass) (l : Fram
       subst So (sym bad.0)
       (now (BadPage above.page) (IsBadRoom.adopts other numbers.1
       (not_adopted t bad.3 bad.4 bad.5 bad.1 bad.2 bad.6 bad.7)))
+
+-- the page is not divided
+pub not_divided : (t : Sought) (old above : Sheet) (e : PlaceError) → WhyNotDivided t old e → WhyNoSplit t old above e
+not_divided t old above e (inl none) = inl none
+not_divided t old above e (inr bad) = inr (inl bad)
+
+-- or its parent does not take the new page
+pub not_taken : (t : Sought) (old above : Sheet) (new : ℕ) (left right : Page) → AreSplit t old.content new left right
+    → (e : PlaceError) → WhyNotTaken (Takes t old.page left) above e → WhyNoSplit t old above e
+not_taken t old above new left right x e (inl none) = inl none
+not_taken t old above new left right x e (inr bad) = inr (inr (bad.0, x.was, bad.1, new, left, right, x, bad.2))
+
+-- a page that is held is not as it should be
+pub is_bad : (Is : Page → Type 0) (held : Sheet) (c : Page) → c ≡ held.content → IsPage c → (Is c → ⊥)
+    → (e : PlaceError) → e ≡ BadPage held.page → WhyNotTaken Is held e
+is_bad Is held c same is_page off e is =
+    inr (is, subst IsPage same is_page, subst (λ (x : Page). Is x → ⊥) same off)
 
 -- and no fault is met then
 pub split_fault : {D : Type 0} (device : Disk D) (f g : FramesValue D) (t : Sought) (old above : Sheet)

@@ -23,6 +23,15 @@ use disk_trait::Disk;
 use page_space::taken_is_new;
 use page_types::PAGE_LIMIT;
 
+/// The refusal of a page that is held.
+pub(crate) fn bad_page(held: &Held) -> PlaceError
+    ensures { result ≡ BadPage held.now.page }
+{
+    PlaceError::BadPage {
+        page: held.number(),
+    }
+}
+
 /// Holds a page. A number past the last that a page may have is no page's.
 pub fn hold_page<D: Disk>(
     frames: &mut Frames<D>,

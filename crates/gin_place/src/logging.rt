@@ -62,7 +62,7 @@ fn log_pages<D: Disk>(
 }
 
 /// The step of this kind that leaves this page under the number of one that is held.
-pub(crate) fn one_step(alloc: Global, kind: Kind, page: (&Held, Page)) -> Result<Step, AllocError>
+pub fn one_step(alloc: Global, kind: Kind, page: (&Held, Page)) -> Result<Step, AllocError>
     ensures step { IfOk result (λ s. s ≡ record {
       kind = kind;
       xid = 0;
@@ -76,7 +76,7 @@ pub(crate) fn one_step(alloc: Global, kind: Kind, page: (&Held, Page)) -> Result
 }
 
 /// The step of this kind that leaves these pages under the numbers of two that are held.
-pub(crate) fn two_step(
+pub fn two_step(
     alloc: Global,
     kind: Kind,
     first: (&Held, Page),
@@ -90,7 +90,14 @@ pub(crate) fn two_step(
     ensures low { OnOk result (((first.entry.0).now.page < page_limit)
         × ((second.entry.0).now.page < page_limit)) }
 {
-    let mut step = one_step(alloc, kind, first)?;
+    let mut step = match one_step(alloc, kind, first) {
+        Ok(step) => step,
+        Err(error) => {
+            // by name it is one call, where `?` would go through all that a page has
+            drop(second.1);
+            return Err(error);
+        }
+    };
     step.leave(Sheet::new(second.0.number(), second.1))?;
     Ok(step)
 }
@@ -112,7 +119,13 @@ pub(crate) fn three_step(
     ensures low { OnOk result (((first.entry.0).now.page < page_limit) × ((second.entry.0).now.page < page_limit)
         × ((third.entry.0).now.page < page_limit)) }
 {
-    let mut step = two_step(alloc, kind, first, second)?;
+    let mut step = match two_step(alloc, kind, first, second) {
+        Ok(step) => step,
+        Err(error) => {
+            drop(third.1);
+            return Err(error);
+        }
+    };
     step.leave(Sheet::new(third.0.number(), third.1))?;
     Ok(step)
 }

@@ -49,7 +49,7 @@ use posting_tree::full_pages_are_large;
 use std::alloc::{AllocError, Global};
 
 /// What is read next.
-#[derive(Clone, Copy, Debug, PartialEq, Eq)]
+#[derive(Clone, Copy)]
 pub(crate) enum Stage {
     /// This page of the tree where something is sought, to which the way for it has led, over its parent;
     /// the root has none.
@@ -63,7 +63,7 @@ pub(crate) enum Stage {
 }
 
 /// Items that are put under a key, step by step.
-#[derive(Clone, Copy, Debug, PartialEq, Eq)]
+#[derive(Clone, Copy)]
 pub struct Placing {
     pub(crate) stage: Stage,
     // so many of the items, the first of them, are under the key

@@ -9,18 +9,18 @@ ghost use Rattle.page_types.specs.declared.page.PostChild.{PostChild};
 ghost use Rattle.core_state.specs.TreeRules.{PostParent};
 ghost use Rattle.posting_tree.specs.Reading.{IsPostBody};
 ghost use Rattle.gin_place.specs.Adopting.{DividesItems, CanTakeItem};
-ghost use Rattle.gin_place.specs.Causes.{CanDivide};
-ghost use Rattle.gin_place.specs.Inner.Dividing.{AreSplit, PassedItem, BarsItem};
-ghost use Rattle.gin_place.specs.declared.error.PlaceError.TheVariants.{OutOfMemory};
+ghost use Rattle.gin_place.specs.Inner.Dividing.{AreSplit, PassedItem, BarsItem, WhyNotDivided, WhyNotTaken};
 ghost use Rattle.gin_place.specs.declared.sought.Sought.TheVariants as soughts;
 
 use crate::error::PlaceError;
 use crate::growing::is_large;
+use crate::holding::bad_page;
 use crate::sought::Sought;
+use buffer_frames::Held;
 use page_types::{Body, Page, PostChild};
 use posting_code::{Items, Keep};
 use posting_tree::{adopt, has_room, split};
-use std::alloc::{AllocError, Global};
+use std::alloc::Global;
 
 /// How many items a list has, and the last of them, 0 where there is none.
 fn count_and_last(list: &[u8]) -> (usize, u32)
@@ -50,31 +50,32 @@ fn members(page: &Page, item: u32) -> (usize, bool)
 
 /// Whether an item is above the bounds of all children but the last.
 fn is_under_last(children: &[PostChild], item: u32) -> bool {
-    children.partition_point(|child| child.bound < item) + 1 >= children.len()
+    let Some(place) = children.len().checked_sub(2) else {
+        return true;
+    };
+    children[place].bound < item
 }
 
-/// The two parts of a page of a posting tree that is large; none of another. The first keeps most where
-/// the item to come is after all that the page has, so that pages stay full where items come in order;
-/// else half.
+/// The two parts of a page of a posting tree that is held. The first keeps most where the item to come is
+/// after all that the page has, so that pages stay full where items come in order; else half.
 pub(crate) fn parts_of(
     alloc: Global,
     root: u32,
     item: u32,
-    page: &Page,
+    held: &Held,
     new: u32,
-) -> Result<Option<(Page, Page)>, AllocError>
-    requires page { IsPage page.now }
+) -> Result<(Page, Page), PlaceError>
     requires new { (new ≢ 0) × (new < page_limit) }
-    ensures parts { IfOk result (λ o. IfSome o
-        (λ r. AreSplit (soughts.Item root item) page.now new r.0 r.1)) }
-    ensures none { IfOk result (λ o. IfNone o (CanDivide (soughts.Item root item) page.now → ⊥)) }
+    ensures parts { IfOk result (λ r. AreSplit (soughts.Item root item) held.now.content new r.0 r.1) }
+    ensures cause { IfErr result (WhyNotDivided (soughts.Item root item) held.now) }
 {
+    let page = held.page();
     let (count, after) = members(page, item);
     if !is_large(Sought::Item { root, item }, page) || count < 2 {
-        return Ok(None);
+        return Err(bad_page(held));
     }
     let keep = if after { Keep::Most } else { Keep::Half };
-    Ok(Some(split(alloc, page, new, keep)?))
+    Ok(split(alloc, page, new, keep)?)
 }
 
 /// Whether the page is named by this child or one before it; none where two name it, or the item does not
@@ -112,29 +113,24 @@ fn divides(children: &[PostChild], page: u32, mid: u32) -> bool
     named
 }
 
-/// The parent with the new page after the page that is split; none where the item does not divide what is
-/// below that page, or the parent has no room.
-pub(crate) fn adopting(
-    parent: &Page,
-    page: u32,
-    new: u32,
-    mid: u32,
-) -> Result<Option<Page>, PlaceError>
-    requires parent { IsPage parent.now }
+/// The parent that is held, with the new page after the page that is split.
+pub(crate) fn adopting(held: &Held, page: u32, new: u32, mid: u32) -> Result<Page, PlaceError>
     requires item { mid < item_limit }
     requires new { new < page_limit }
-    ensures adopts { IfOk result (λ o. IfSome o
-        (λ p. PostParent page new mid parent.now.body p.body)) }
-    ensures same { IfOk result (λ o. IfSome o (λ p. p ≡ record parent.now { body = p.body })) }
-    ensures is_page { IfOk result (λ o. IfSome o (λ p. IsPage p)) }
-    ensures none { IfOk result (λ o. IfNone o (CanTakeItem page mid parent.now → ⊥)) }
-    ensures cause { IfErr result (λ e. e ≡ OutOfMemory) }
+    ensures adopts { IfOk result (λ p. PostParent page new mid held.now.content.body p.body) }
+    ensures same { IfOk result (λ p. p ≡ record held.now.content { body = p.body }) }
+    ensures is_page { IfOk result IsPage }
+    ensures cause { IfErr result (WhyNotTaken (CanTakeItem page mid) held.now) }
 {
+    let parent = held.page();
     let Body::PostInner(children) = &parent.body else {
-        return Ok(None);
+        return Err(bad_page(held));
     };
     if !has_room(parent) || !divides(children.as_slice(), page, mid) {
-        return Ok(None);
+        return Err(bad_page(held));
     }
-    Ok(adopt(parent, page, new, mid)?)
+    match adopt(parent, page, new, mid)? {
+        Some(adopted) => Ok(adopted),
+        None => Err(bad_page(held)),
+    }
 }

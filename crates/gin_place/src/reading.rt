@@ -21,7 +21,7 @@ use posting_code::{fitting, lacks};
 use std::alloc::{AllocError, Global};
 
 /// What a page says of items that are to come under a key, where nothing is to be logged.
-#[derive(Clone, Copy, Debug, PartialEq, Eq)]
+#[derive(Clone, Copy)]
 pub(crate) enum Next {
     /// The way goes on to this child.
     Down(u32),

@@ -16,8 +16,8 @@ ghost use Rattle.gin_place.specs.declared.sought.Sought.TheVariants as soughts;
 
 use crate::error::PlaceError;
 use crate::holding::hold_new;
-use crate::logging::{log_two, release, two_step};
-use buffer_frames::{Frames, Held, Pass, Step};
+use crate::logging::{log_two, one_step, release};
+use buffer_frames::{Frames, Held, Pass, Sheet, Step};
 use core_maintenance::{tree_names_hold, tree_pages_serve, tree_steps_hold};
 use disk_trait::Disk;
 use entry_tree::root_at;
@@ -51,11 +51,14 @@ fn tree_step(alloc: Global, held: &Held, place: usize, new: &Held) -> Result<Ste
     let Some(list) = list_at(held.page(), place) else {
         unreachable!()
     };
-    let tree = leaf(alloc, list)?;
-    let Some(named) = root_at(held.page(), place, new.number())? else {
+    let root = new.number();
+    let Some(named) = root_at(held.page(), place, root)? else {
         unreachable!()
     };
-    two_step(alloc, Kind::MakeTree, (held, named), (new, tree))
+    let mut step = one_step(alloc, Kind::MakeTree, (held, named))?;
+    let tree = leaf(alloc, list)?;
+    step.leave(Sheet::new(root, tree))?;
+    Ok(step)
 }
 
 /// A key's list becomes a posting tree; the page that is held, with the key's entry, is given back. The

@@ -8,7 +8,7 @@ use page_types::{Body, Page};
 pub(crate) const ROOT: u32 = 1;
 
 /// What is sought, in the tree where it is.
-#[derive(Clone, Copy, Debug, PartialEq, Eq)]
+#[derive(Clone, Copy)]
 pub(crate) enum Sought {
     /// The key, in the entry tree.
     Key,

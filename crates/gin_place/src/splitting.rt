@@ -20,18 +20,19 @@ ghost use Rattle.gin_place.specs.Faults.{MetNoFault, FaultBy};
 ghost use Rattle.gin_place.specs.Holding.{ReadsOn, IsNewHeld};
 ghost use Rattle.gin_place.specs.Inner.Making.{WhyNoRoom};
 ghost use Rattle.gin_place.specs.Inner.Logging.{Adopts, AreSplitIn, IsSplitStep};
-ghost use Rattle.gin_place.specs.Inner.Dividing.{AreSplit, EndsWithin, Takes, Passed, Bars, WhyNoSplit, WhyNotAdopted};
+ghost use Rattle.gin_place.specs.Inner.Dividing.{AreSplit, EndsWithin, Takes, Passed, Bars, WhyNotDivided, WhyNotTaken};
+ghost use Rattle.gin_place.specs.Inner.Dividing.{WhyNoSplit};
 ghost use Rattle.gin_place.specs.declared.error.PlaceError.TheVariants.{OutOfMemory};
 ghost use Rattle.gin_place.specs.declared.sought.Sought.{Sought as SoughtValue};
 ghost use Rattle.gin_place.specs.declared.sought.Sought.TheVariants as soughts;
 
 use crate::error::PlaceError;
 use crate::growing::is_large;
-use crate::holding::{hold_new, hold_page};
+use crate::holding::{bad_page, hold_new, hold_page};
 use crate::logging::{Three, give_back, log_three, release, three_step};
 use crate::posting_splits;
 use crate::sought::Sought;
-use buffer_frames::{Frames, Pass, Step};
+use buffer_frames::{Frames, Held, Pass, Step};
 use core_maintenance::{tree_pages_serve, tree_steps_hold};
 use disk_trait::Disk;
 use entry_tree::{Found, adopt, find, has_room, pages_may_be_logged, split, upper};
@@ -152,102 +153,55 @@ fn divides<Q, W: Meaning<Q>, C: CompareKeys, J: Judge<Q, W>>(
     named
 }
 
-/// The parent with the new page after the page that is split; none where the key does not divide what is
-/// below that page, or the parent has no room.
+/// The parent that is held, with the new page after the page that is split.
 fn adopting<Q, W: Meaning<Q>, C: CompareKeys, J: Judge<Q, W>>(
-    parent: &Page,
+    held: &Held,
     class: &OpClass<Q, W, C, J>,
     page: u32,
     new: u32,
     mid: &[u8],
-) -> Result<Option<Page>, PlaceError>
-    requires parent { IsPage parent.now }
+) -> Result<Page, PlaceError>
     requires key { IsKey mid.now }
     requires new { new < page_limit }
-    ensures adopts { IfOk result (λ o. IfSome o
-        (λ p. EntryParent page new mid.now parent.now.body p.body)) }
-    ensures same { IfOk result (λ o. IfSome o (λ p. p ≡ record parent.now { body = p.body })) }
-    ensures is_page { IfOk result (λ o. IfSome o (λ p. IsPage p)) }
-    ensures none { IfOk result (λ o. IfNone o (CanTake page mid.now parent.now → ⊥)) }
-    ensures cause { IfErr result (λ e. e ≡ OutOfMemory) }
+    ensures adopts { IfOk result (λ p. EntryParent page new mid.now held.now.content.body p.body) }
+    ensures same { IfOk result (λ p. p ≡ record held.now.content { body = p.body }) }
+    ensures is_page { IfOk result IsPage }
+    ensures cause { IfErr result (WhyNotTaken (CanTake page mid.now) held.now) }
 {
+    let parent = held.page();
     let Body::EntryInner(children) = &parent.body else {
-        return Ok(None);
+        return Err(bad_page(held));
     };
     if !has_room(parent) || !divides(children, class, page, mid) {
-        return Ok(None);
+        return Err(bad_page(held));
     }
-    Ok(adopt(parent, page, new, mid)?)
+    match adopt(parent, page, new, mid)? {
+        Some(adopted) => Ok(adopted),
+        None => Err(bad_page(held)),
+    }
 }
 
-/// The two parts of a page of the entry tree that is large; none of another.
+/// The two parts of a page of the entry tree that is held.
 fn parts_of<Q, W: Meaning<Q>, C: CompareKeys, J: Judge<Q, W>>(
     alloc: Global,
     class: &OpClass<Q, W, C, J>,
     key: &[u8],
-    page: &Page,
+    held: &Held,
     new: u32,
-) -> Result<Option<(Page, Page)>, AllocError>
-    requires page { IsPage page.now }
+) -> Result<(Page, Page), PlaceError>
     requires new { (new ≢ 0) × (new < page_limit) }
-    ensures parts { IfOk result (λ o. IfSome o (λ r. AreSplit soughts.Key page.now new r.0 r.1)) }
-    ensures none { IfOk result (λ o. IfNone o (CanDivide soughts.Key page.now → ⊥)) }
+    ensures parts { IfOk result (λ r. AreSplit soughts.Key held.now.content new r.0 r.1) }
+    ensures cause { IfErr result (WhyNotDivided soughts.Key held.now) }
 {
+    let page = held.page();
     if !is_large(Sought::Key, page) || members(page) < 2 {
-        return Ok(None);
+        return Err(bad_page(held));
     }
-    Ok(Some(split(alloc, page, new, keep_for(page, class, key))?))
-}
-
-/// The two parts of a page of the tree where something is sought, where it is large; none of another.
-fn tree_halves<Q, W: Meaning<Q>, C: CompareKeys, J: Judge<Q, W>>(
-    alloc: Global,
-    class: &OpClass<Q, W, C, J>,
-    key: &[u8],
-    sought: Sought,
-    page: &Page,
-    new: u32,
-) -> Result<Option<(Page, Page)>, AllocError>
-    requires page { IsPage page.now }
-    requires new { (new ≢ 0) × (new < page_limit) }
-    ensures parts { IfOk result (λ o. IfSome o (λ r. AreSplit sought page.now new r.0 r.1)) }
-    ensures none { IfOk result (λ o. IfNone o (CanDivide sought page.now → ⊥)) }
-{
-    match sought {
-        Sought::Key => parts_of(alloc, class, key, page, new),
-        Sought::Item { root, item } => posting_splits::parts_of(alloc, root, item, page, new),
-    }
-}
-
-/// The parent with the new page after the page whose first part is this; none where what that part ends
-/// with does not divide what is below the page, or the parent has no room.
-fn tree_adopting<Q, W: Meaning<Q>, C: CompareKeys, J: Judge<Q, W>>(
-    parent: &Page,
-    class: &OpClass<Q, W, C, J>,
-    sought: Sought,
-    page: u32,
-    new: u32,
-    left: &Page,
-) -> Result<Option<Page>, PlaceError>
-    requires parent { IsPage parent.now }
-    requires ends { EndsWithin sought left.now }
-    requires new { new < page_limit }
-    ensures adopts { IfOk result (λ o. IfSome o (λ p. Adopts sought page new left.now parent.now p)) }
-    ensures same { IfOk result (λ o. IfSome o (λ p. p ≡ record parent.now { body = p.body })) }
-    ensures is_page { IfOk result (λ o. IfSome o (λ p. IsPage p)) }
-    ensures none { IfOk result (λ o. IfNone o (Takes sought page left.now parent.now → ⊥)) }
-    ensures cause { IfErr result (λ e. e ≡ OutOfMemory) }
-{
-    match sought {
-        Sought::Key => adopting(parent, class, page, new, upper(left)),
-        Sought::Item { .. } => {
-            posting_splits::adopting(parent, page, new, posting_tree::upper(left))
-        }
-    }
+    Ok(split(alloc, page, new, keep_for(page, class, key))?)
 }
 
 /// The two parts of the page that is held.
-fn held_halves<Q, W: Meaning<Q>, C: CompareKeys, J: Judge<Q, W>>(
+fn tree_halves<Q, W: Meaning<Q>, C: CompareKeys, J: Judge<Q, W>>(
     alloc: Global,
     class: &OpClass<Q, W, C, J>,
     key: &[u8],
@@ -256,20 +210,17 @@ fn held_halves<Q, W: Meaning<Q>, C: CompareKeys, J: Judge<Q, W>>(
 ) -> Result<(Page, Page), PlaceError>
     requires { three.now.new.page ≢ 0 }
     ensures parts { IfOk result (λ r. AreSplit sought three.now.page.content three.now.new.page r.0 r.1) }
-    ensures page { OnOk result (IsPage three.now.page.content) }
-    ensures cause { IfErr result (WhyNoSplit sought three.now.page three.now.parent) }
+    ensures cause { IfErr result (WhyNotDivided sought three.now.page) }
 {
-    let (page, new) = (&three.page, three.new.number());
-    match tree_halves(alloc, class, key, sought, page.page(), new)? {
-        Some(halves) => Ok(halves),
-        None => Err(PlaceError::BadPage {
-            page: page.number(),
-        }),
+    let (held, new) = (&three.page, three.new.number());
+    match sought {
+        Sought::Key => parts_of(alloc, class, key, held, new),
+        Sought::Item { root, item } => posting_splits::parts_of(alloc, root, item, held, new),
     }
 }
 
 /// The parent that is held, with the new page after the page whose first part is this.
-fn held_parent<Q, W: Meaning<Q>, C: CompareKeys, J: Judge<Q, W>>(
+fn tree_adopting<Q, W: Meaning<Q>, C: CompareKeys, J: Judge<Q, W>>(
     class: &OpClass<Q, W, C, J>,
     sought: Sought,
     left: &Page,
@@ -280,14 +231,15 @@ fn held_parent<Q, W: Meaning<Q>, C: CompareKeys, J: Judge<Q, W>>(
         (λ p. Adopts sought three.now.page.page three.now.new.page left.now three.now.parent.content p) }
     ensures same { IfOk result (λ p. p ≡ record three.now.parent.content { body = p.body }) }
     ensures is_page { IfOk result IsPage }
-    ensures cause { IfErr result (WhyNotAdopted sought three.now.page.page left.now three.now.parent) }
+    ensures cause { IfErr result
+        (WhyNotTaken (Takes sought three.now.page.page left.now) three.now.parent) }
 {
-    let (page, new, parent) = (three.page.number(), three.new.number(), &three.parent);
-    match tree_adopting(parent.page(), class, sought, page, new, left)? {
-        Some(adopted) => Ok(adopted),
-        None => Err(PlaceError::BadPage {
-            page: parent.number(),
-        }),
+    let (page, new, held) = (three.page.number(), three.new.number(), &three.parent);
+    match sought {
+        Sought::Key => adopting(held, class, page, new, upper(left)),
+        Sought::Item { .. } => {
+            posting_splits::adopting(held, page, new, posting_tree::upper(left))
+        }
     }
 }
 
@@ -301,13 +253,16 @@ fn tree_parts<Q, W: Meaning<Q>, C: CompareKeys, J: Judge<Q, W>>(
 ) -> Result<(Page, Page, Page), PlaceError>
     requires { three.now.new.page ≢ 0 }
     ensures parts { IfOk result (λ r. AreSplitIn sought three.now.page three.now.new three.now.parent r.0 r.1 r.2) }
-    ensures page { OnOk result (IsPage three.now.page.content) }
     ensures cause { IfErr result (WhyNoSplit sought three.now.page three.now.parent) }
 {
-    let (left, right) = held_halves(alloc, class, key, sought, three)?;
-    match held_parent(class, sought, &left, three) {
+    let (left, right) = tree_halves(alloc, class, key, sought, three)?;
+    match tree_adopting(class, sought, &left, three) {
         Ok(adopted) => Ok((left, right, adopted)),
-        Err(error) => Err(error),
+        Err(error) => {
+            drop(left);
+            drop(right);
+            Err(error)
+        }
     }
 }
 
@@ -321,7 +276,6 @@ fn split_step<Q, W: Meaning<Q>, C: CompareKeys, J: Judge<Q, W>>(
 ) -> Result<Step, PlaceError>
     requires { three.now.new.page ≢ 0 }
     ensures step { IfOk result (IsSplitStep sought (three.now.page) (three.now.new) (three.now.parent)) }
-    ensures page { OnOk result (IsPage three.now.page.content) }
     ensures low { OnOk result ((three.now.page.page < page_limit) × (three.now.new.page < page_limit)
         × (three.now.parent.page < page_limit)) }
     ensures cause { IfErr result (WhyNoSplit sought three.now.page three.now.parent) }

@@ -30,6 +30,7 @@ EndsWithin (sought.Item root item) left = post_rooms.upper_in left.body < item_l
 
 -- a page of the tree that is large, in two parts, the second of which the new page takes
 pub record AreSplit (t : Sought) (c : Page) (new : ℕ) (left right : Page) : Type 0 where
+  pub was : IsPage c
   pub on_tree : IsTreeBody t c.body
   pub large : half_body < length (body_bytes c.body)
   pub keep : Keep
@@ -43,10 +44,13 @@ abbrev pub Takes : Sought → ℕ → Page → Page → Type 0
 Takes sought.Key page left parent = CanTake page (entry_rooms.upper_in left.body) parent
 Takes (sought.Item root item) page left parent = CanTakeItem page (post_rooms.upper_in left.body) parent
 
--- why the parent does not, of a page whose first part is this
-abbrev pub WhyNotAdopted : Sought → ℕ → Page → Sheet → PlaceError → Type 0
-WhyNotAdopted t page left above e =
-    (e ≡ OutOfMemory) ⊎ ((e ≡ BadPage above.page) × IsPage above.content × (Takes t page left above.content → ⊥))
+-- why a page that is held is not as this says
+abbrev pub WhyNotTaken : (Page → Type 0) → Sheet → PlaceError → Type 0
+WhyNotTaken Is held e = (e ≡ OutOfMemory) ⊎ ((e ≡ BadPage held.page) × IsPage held.content × (Is held.content → ⊥))
+
+-- why it is not divided
+abbrev pub WhyNotDivided : Sought → Sheet → PlaceError → Type 0
+WhyNotDivided t held e = WhyNotTaken (CanDivide t) held e
 
 -- why a page is not split, or its parent does not take the new page
 abbrev pub WhyNoSplit : Sought → Sheet → Sheet → PlaceError → Type 0

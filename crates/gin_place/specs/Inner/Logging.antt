@@ -82,6 +82,7 @@ Adopts (sought.Item root item) page new left parent adopted =
 -- a page that is large, in two parts, and its parent with the new page
 pub record AreSplitIn (t : Sought) (old new above : Sheet) (left right adopted : Page) : Type 0 where
   pub keep : Keep
+  pub was : IsPage old.content
   pub on_tree : IsTreeBody t old.content.body
   pub large : half_body < length (body_bytes old.content.body)
   pub parts : AreParts old.content new.page keep left right

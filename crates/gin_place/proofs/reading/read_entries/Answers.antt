@@ -74,3 +74,6 @@ returns-in-Absent-clause-leaf g c =
     if_ok c.read_none.result (IsReading c.args.page.now c.args.key.now c.args.items.now)
     (λ r. c.args.making_room ≡ false → IsFullLeaf c.args.page.now r)
     (λ r read first. full_leaf c.args.page.now leaf r) c.read_none.ensures
+
+pub returns-then-not-has_room-clause-room : goal.returns-then-not-has_room-clause-room
+returns-then-not-has_room-clause-room g c = λ making. tt

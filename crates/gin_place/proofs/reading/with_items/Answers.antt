@@ -24,3 +24,6 @@ returns-in-Full-clause-some g c =
     IsReading.full_leaf (length items) c.requires.leaf
     (subst (λ (l : List ℕ). IsAdded c.args.page.now c.args.key.now l added.Full) (sym all) full) c.requires.fresh
     c.requires.no_tree
+
+pub returns-in-TooLong-clause-some : goal.returns-in-TooLong-clause-some
+returns-in-TooLong-clause-some g c = tt

@@ -1,4 +1,4 @@
-use Rattle.std.proofs.Common.{◌≡◌, ◌<◌, ℕ, Some, sym, ap, subst, ◌∙◌, arith}
+use Rattle.std.proofs.Common.{◌≡◌, ◌<◌, ◌++◌, ◌∷◌, [], ℕ, Some, sym, ap, subst, ◌∙◌, arith}
 use Rattle.std.specs.Prelude.{Option, IfSome}
 use Rattle.std.specs.List.{slice_get}
 use Rattle.page_types.specs.Numbers.{page_limit}
@@ -7,8 +7,9 @@ use Rattle.page_types.specs.Views.{entries_in}
 use Rattle.page_types.specs.declared.page.Page.{Page}
 use Rattle.entry_tree.specs.Adding.{IsEntryLeaf, list_entry}
 use Rattle.entry_tree.specs.Rooting.{rooted}
-use Rattle.gin_place.specs.Inner.Logging.{IsTreeStep}
-use Rattle.gin_place.proofs.Exits.{if_ok}
+use Rattle.page_types.specs.declared.record.Kind.TheVariants as kind
+use Rattle.core_state.specs.Allowed.{Sheet, Step}
+use Rattle.core_state.specs.Steps.{sheet}
 use Rattle.gin_place.proofs.RootingLists.{entry_list, tree_made}
 use Rattle.gin_place.proofs.rooting.tree_step.Goals as goal
 
@@ -67,21 +68,38 @@ pub returns-clause-step : goal.returns-clause-step
 returns-clause-step c =
     let at = c.in-Some.ensures.some in
     let old = c.args.held.now in
+    let root = c.number-root.result in
+    let tree = c.in_ok-tree.tree in
     let there = subst (λ (p : Page). slice_get (entries_in p.body) c.args.place
     ≡ Some (list_entry at.0 c.in-Some.list.now)) c.page.ensures.value at.1 in
     let is : c.page-2.result.now ≡ old.content = c.page-2.ensures.value in
     let page = subst (λ (o : Option Page). IfSome o (λ p.
-    p ≡ record c.page-2.result.now { body = rooted c.page-2.result.now.body c.args.place c.number.result }))
+    p ≡ record c.page-2.result.now { body = rooted c.page-2.result.now.body c.args.place root }))
     c.in-Some-2.is c.in_ok-named.ensures.rooted in
     let named : c.in-Some-2.named
     ≡ record old.content { body = rooted old.content.body c.args.place c.args.new.now.page } =
     page
-    ∙ ap (λ (p : Page). record p { body = rooted p.body c.args.place c.number.result }) is
-    ∙ ap (λ (n : ℕ). record old.content { body = rooted old.content.body c.args.place n }) c.number.ensures.value in
-    let fits = subst (λ (o : Option Page). IfSome o (λ p. IsPage c.page-2.result.now → c.number.result < page_limit
-    → IsPage p)) c.in-Some-2.is c.in_ok-named.ensures.is_page in
-    if_ok c.two_step.result _ (IsTreeStep c.args.place old c.args.new.now)
-    (λ s made. tree_made c.args.place old c.args.new.now at.0 c.in-Some.list.now c.in-Some-2.named c.in_ok-tree.tree s
+    ∙ ap (λ (p : Page). record p { body = rooted p.body c.args.place root }) is
+    ∙ ap (λ (n : ℕ). record old.content { body = rooted old.content.body c.args.place n }) c.number-root.ensures.value in
+    let fits = subst (λ (o : Option Page). IfSome o (λ p. IsPage c.page-2.result.now → root < page_limit → IsPage p))
+    c.in-Some-2.is c.in_ok-named.ensures.is_page in
+    let made : c.leave.new.self
+    ≡ record {
+      kind = kind.MakeTree;
+      xid = 0;
+      after = sheet old.page c.in-Some-2.named ∷ sheet c.args.new.now.page tree ∷ [];
+    } =
+    c.in_ok-leave.ensures.ok
+    ∙ ap (λ (s : Step). record s { after = s.after ++ c.new.result ∷ [] }) c.in_ok-step.ensures.step
+    ∙ ap (λ (x : Sheet). record {
+      kind = kind.MakeTree;
+      xid = 0;
+      after = sheet old.page c.in-Some-2.named ∷ x ∷ [];
+    }) (c.new.ensures ∙ ap (λ (n : ℕ). sheet n tree) c.number-root.ensures.value) in
+    tree_made c.args.place old c.args.new.now at.0 c.in-Some.list.now c.in-Some-2.named tree c.leave.new.self
     there (c.requires.1).leaf named c.in_ok-tree.ensures.leaf
-    (fits c.page-2.ensures.is_page c.number.ensures.bound, c.in_ok-tree.ensures.is_page) made)
-    c.two_step.ensures.step
+    (fits c.page-2.ensures.is_page c.number-root.ensures.bound, c.in_ok-tree.ensures.is_page) made
+
+pub returns-clause-low : goal.returns-clause-low
+returns-clause-low c =
+    (c.in_ok-step.ensures.low, subst (λ (n : ℕ). n < page_limit) c.number-root.ensures.value c.number-root.ensures.bound)

@@ -1,13 +1,50 @@
-use Rattle.std.proofs.Common.{rules}
+use Rattle.std.proofs.Common.{◌≡◌, refl, subst, inl, rules}
+use Rattle.std.proofs.lemmas.Result.{err_from_is_err_and}
+use Rattle.page_types.specs.Pages.{IsPage}
+use Rattle.page_types.specs.declared.page.Page.{Page}
+use Rattle.core_state.specs.TreeRules.{EntryParent}
+use Rattle.gin_place.specs.Adopting.{CanTake}
+use Rattle.gin_place.specs.Inner.Dividing.{WhyNotTaken}
+use Rattle.gin_place.specs.declared.error.PlaceError.TheVariants.{OutOfMemory}
+use Rattle.gin_place.proofs.Causing.{at_exit}
+use Rattle.gin_place.proofs.Exits.{in_some, in_none}
 use Rattle.gin_place.proofs.Passing.{adopted_page, none_taken}
+use Rattle.gin_place.proofs.SplitCauses.{is_bad}
 use Rattle.gin_place.proofs.splitting.adopting.Goals as goal
 
-pub returns-clause-is_page : goal.returns-clause-is_page
-returns-clause-is_page g c =
-    adopted_page c.in_ok-adopt.field-0 c.args.parent.now c.in-EntryInner.children c.args.page c.args.new c.args.mid.now
-    c.in-EntryInner.is c.requires.key (c.divides.ensures.0 (search rules)) c.requires.parent
-    (c.has_room.ensures.0 (search rules)) c.requires.new c.in_ok-adopt.ensures.adopted c.in_ok-adopt.ensures.is_page
+pub returns-in_err-adopted-clause-cause : goal.returns-in_err-adopted-clause-cause
+returns-in_err-adopted-clause-cause g c =
+    let p = err_from_is_err_and c.from_residual.result c.from_residual.ensures.1 in
+    at_exit (WhyNotTaken (CanTake c.args.page c.args.mid.now) c.args.held.now) c.from_residual.result p.0 OutOfMemory
+    p.1 p.2 (inl refl)
 
-pub returns-clause-none : goal.returns-clause-none
-returns-clause-none g c =
-    none_taken c.in_ok-adopt.field-0 c.args.parent.now c.args.page c.args.mid.now c.in_ok-adopt.ensures.none
+pub returns-in-Some-clause-adopts : goal.returns-in-Some-clause-adopts
+returns-in-Some-clause-adopts g c =
+    subst (λ (p : Page). EntryParent c.args.page c.args.new c.args.mid.now p.body c.in-Some.adopted.body)
+    c.page-parent.ensures.value
+    (in_some c.in_ok-adopted.field-0 c.in-Some.adopted
+    (λ p. EntryParent c.args.page c.args.new c.args.mid.now c.page-parent.result.now.body p.body) c.in-Some.is
+    c.in_ok-adopted.ensures.adopted)
+
+pub returns-in-Some-clause-same : goal.returns-in-Some-clause-same
+returns-in-Some-clause-same g c =
+    subst (λ (p : Page). c.in-Some.adopted ≡ record p { body = c.in-Some.adopted.body }) c.page-parent.ensures.value
+    (in_some c.in_ok-adopted.field-0 c.in-Some.adopted (λ p. p ≡ record c.page-parent.result.now { body = p.body })
+    c.in-Some.is c.in_ok-adopted.ensures.same)
+
+pub returns-in-Some-clause-is_page : goal.returns-in-Some-clause-is_page
+returns-in-Some-clause-is_page g c =
+    in_some c.in_ok-adopted.field-0 c.in-Some.adopted IsPage c.in-Some.is
+    (adopted_page c.in_ok-adopted.field-0 c.page-parent.result.now c.in-EntryInner.children c.args.page c.args.new
+    c.args.mid.now c.in-EntryInner.is c.requires.key (c.divides.ensures.0 (search rules))
+    c.page-parent.ensures.is_page (c.has_room.ensures.0 (search rules)) c.requires.new c.in_ok-adopted.ensures.adopted
+    c.in_ok-adopted.ensures.is_page)
+
+pub returns-in-None-clause-cause : goal.returns-in-None-clause-cause
+returns-in-None-clause-cause g c =
+    let parent = c.page-parent.result.now in
+    is_bad (CanTake c.args.page c.args.mid.now) c.args.held.now parent c.page-parent.ensures.value
+    c.page-parent.ensures.is_page
+    (in_none c.in_ok-adopted.field-0 (CanTake c.args.page c.args.mid.now parent → ⊥) c.in-None.is
+    (none_taken c.in_ok-adopted.field-0 parent c.args.page c.args.mid.now c.in_ok-adopted.ensures.none))
+    c.bad_page-in-None.result c.bad_page-in-None.ensures

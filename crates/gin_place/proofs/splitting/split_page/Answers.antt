@@ -19,7 +19,7 @@ log_three-requires g c =
     let t = c.in_ok-three.three in
     let low = c.in-Ok.ensures.low in
     split_may_log g.D.Disk c.hold_three.new.frames c.hold_three.new.pass c.args.sought t.page t.new t.parent
-    c.in-Ok.step c.in-Ok.ensures.step c.in_ok-three.ensures.holding c.in-Ok.ensures.page low
+    c.in-Ok.step c.in-Ok.ensures.step c.in_ok-three.ensures.holding c.in-Ok.ensures.step.split.was low
     c.hold_three.ensures.reads.works.is_pass
     (right_on g.D.Disk c.args.frames.now c.hold_three.new.frames c.args.pass.now c.hold_three.new.pass []
     c.requires.right c.hold_three.ensures.reads.works) c.tree_steps_hold.ensures.split
