@@ -1,16 +1,16 @@
 -- Each step of a cleanup brings its end nearer.
 use Rattle.std.proofs.Common.{◌≡◌, ◌<◌, ◌≤◌, ◌-◌, ℕ, suc, List, [], ◌∷◌, length, sym, ap, subst, ◌∙◌, inl, inr, arith}
-use Rattle.std.proofs.Common.{length-append, Bool, true, Result, Ok}
+use Rattle.std.proofs.Common.{length-append, Result}
 use Rattle.std.proofs.lemmas.Nat.{mul-le}
-use Rattle.std.specs.Prelude.{◌+◌, ◌*◌, ◌^◌, Vec}
+use Rattle.std.specs.Prelude.{◌+◌, ◌*◌, ◌^◌, Vec, OnOk}
 use Rattle.std.specs.declared.alloc.Global.{Global}
-use Rattle.std.specs.declared.alloc.AllocError.{AllocError}
 use Rattle.page_types.specs.declared.page.Page.{Page}
 use Rattle.page_types.specs.declared.page.Row.{Row}
 use Rattle.buffer_frames.specs.Frames.{FramesValue}
 use Rattle.gin_place.specs.Placing.{at_root}
 use Rattle.gin_place.specs.Running.{RecordsRise}
 use Rattle.gin_place.specs.Stepping.{steps_left, IsNearer}
+use Rattle.gin_place.specs.declared.error.PlaceError.{PlaceError}
 use Rattle.gin_place.specs.declared.placing.Placing.{Placing}
 use Rattle.gin_cleanup.specs.Gathered.{KeyItems}
 use Rattle.gin_cleanup.specs.Inner.Between.{HasNext}
@@ -20,6 +20,7 @@ use Rattle.gin_cleanup.specs.Measure.{stage_steps, steps_of, ComesNearer}
 use Rattle.gin_cleanup.specs.declared.cleanup.Cleanup.{Cleanup}
 use Rattle.gin_cleanup.specs.declared.cleanup.Stage.{Stage}
 use Rattle.gin_cleanup.specs.declared.cleanup.Stage.TheVariants as stage
+use Rattle.gin_cleanup.proofs.Tests.{on_answer}
 
 -- the steps of a cleanup at this stage
 steps_at : (c : Cleanup) (s : Stage) → c.stage ≡ s → steps_of c ≡ c.turns * 2 ^ 170 + stage_steps c s
@@ -93,15 +94,15 @@ taken_nearer rows right old new page before at few t =
     (subst (λ (n : ℕ). n < old.turns * 2 ^ 170 + (2 * 2 ^ 168 + (old.left - length old.counts.items)))
     (sym (steps_at new (stage.Reading right t.before) t.stage_is)) (omega (arith, one, turns, t.left, few)))
 
-pub noted_nearer : (content : Page) (old new : Cleanup) (r : Result Bool AllocError) (page : ℕ) (before : Vec ℕ Global)
-    → old.stage ≡ stage.Reading page before → length old.counts.items < old.left → HasNoted content old new r
-    → r ≡ Ok true → steps_of new < steps_of old
-noted_nearer content old new r page before at few (HasNoted.bad off same is) e = absurd (cc)
-noted_nearer content old new r page before at few (HasNoted.ends rows is b next ok) e =
-    next_read old new page before at next
-noted_nearer content old new r page before at few (HasNoted.taken rows is above t ok) e =
-    taken_nearer rows content.right old new page before at few t
-noted_nearer content old new r page before at few (HasNoted.kept rows is above k w err) e = absurd (cc)
+pub noted_nearer : {A : Type 0} (content : Page) (old new : Cleanup) (page : ℕ) (before : Vec ℕ Global)
+    → old.stage ≡ stage.Reading page before → length old.counts.items < old.left → (r : Result A PlaceError)
+    → HasNoted page content old new r → OnOk r (steps_of new < steps_of old)
+noted_nearer content old new page before at few r (HasNoted.bad off same is) = rw is tt
+noted_nearer content old new page before at few r (HasNoted.ends rows is b next x ok) =
+    on_answer (steps_of new < steps_of old) r (next_read old new page before at next)
+noted_nearer content old new page before at few r (HasNoted.taken rows is above t x ok) =
+    on_answer (steps_of new < steps_of old) r (taken_nearer rows content.right old new page before at few t)
+noted_nearer content old new page before at few r (HasNoted.kept rows is above k err) = rw err tt
 
 -- a step of the key that is placed
 placed_nearer : (c : Cleanup) (key items : Vec ℕ Global) (old new : Placing) → c.stage ≡ stage.Placing key items old

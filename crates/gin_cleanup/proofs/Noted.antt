@@ -1,8 +1,7 @@
 -- Where a cleanup is once a page was read, or was not.
 use Rattle.std.proofs.Common.{◌≡◌, ◌≤◌, ◌∷◌, ℕ, List, [], length, refl, sym, ap, subst, ◌∙◌, arith}
-use Rattle.std.specs.Prelude.{◌<◌, ◌↔◌, Vec, Bool, true, false, Result, Ok, ⊤}
+use Rattle.std.specs.Prelude.{◌<◌, ◌↔◌, Vec, Bool, true, false, Result, IfErr, ⊤}
 use Rattle.std.specs.List.{AllByRecursion}
-use Rattle.std.specs.declared.alloc.AllocError.{AllocError}
 use Rattle.std.specs.declared.alloc.Global.{Global}
 use Rattle.disk_trait.specs.declared.device.Disk.{Ghosts as Disk}
 use Rattle.page_types.specs.Pages.{IsPage, IsRow, IsBody}
@@ -23,6 +22,7 @@ use Rattle.buffer_frames.proofs.AtHand.{none_held}
 use Rattle.gin_place.specs.Placing.{HasRight}
 use Rattle.gin_place.specs.Holding.{ReadsOn}
 use Rattle.gin_place.specs.Causes.{Finds, CannotUse, CannotHold}
+use Rattle.gin_place.specs.Faults.{MetNoFault, FaultBy}
 use Rattle.gin_place.specs.declared.error.PlaceError.{PlaceError}
 use Rattle.gin_place.specs.declared.error.PlaceError.TheVariants.{StoreFull, LogFull, DiskFault, Down, BadPage}
 use Rattle.gin_place.specs.declared.error.PlaceError.TheVariants.{OutOfMemory}
@@ -68,26 +68,46 @@ module _ {D : Type 0} (device : Disk D) (f : FramesValue D) (p : Pass) (from : �
 
   -- once it was read, or could not be noted
   pub noted : PagesHold → (content : Page) → IsPage content → Seen device f p (λ S P. P page ≡ content)
-      → (new : Cleanup) (r : Result Bool AllocError) → HasNoted content old new r → IsCleaning device f p from new
+      → {A : Type 0} (new : Cleanup) (r : Result A PlaceError) → HasNoted page content old new r
+      → IsCleaning device f p from new
   noted told content is_page seen new r (HasNoted.bad off same is) = subst (IsCleaning device f p from) (sym same) was
-  noted told content is_page seen new r (HasNoted.ends rows is e next ok) =
+  noted told content is_page seen new r (HasNoted.ends rows is e next x ok) =
       let items : e.before ≡ b = same_items e.page page e.before b (sym e.stage_is ∙ at) in
       next_cleaning device f p from old new
       (before_between device f p from old page b at was told few e.some rows
       (λ t up R stands legal P shown. ap rows_of (seen t up R stands legal P shown) ∙ ap rows_in is)
       (λ goes. e.other (subst (λ (v : Vec ℕ Global). GoesOnWith rows v.items) (sym items) goes))) next
-  noted told content is_page seen new r (HasNoted.taken rows is above t ok) =
+  noted told content is_page seen new r (HasNoted.taken rows is above t x ok) =
       taken device f p from old page b at rows content is (each_row content rows is_page is) above few seen was new t
-  noted told content is_page seen new r (HasNoted.kept rows is above k e err) =
+  noted told content is_page seen new r (HasNoted.kept rows is above k err) =
       kept device f p from old page b at rows content is (each_row content rows is_page is) above few seen was new k
 
--- only a page that is none of rows of documents is said to be bad
-pub noted_bad : (content : Page) (old new : Cleanup) (r : Result Bool AllocError) → HasNoted content old new r
-    → r ≡ Ok false → IsRowPage content → ⊥
-noted_bad content old new r (HasNoted.bad off same is) e = off
-noted_bad content old new r (HasNoted.ends rows is b next ok) e = absurd (cc)
-noted_bad content old new r (HasNoted.taken rows is above t ok) e = absurd (cc)
-noted_bad content old new r (HasNoted.kept rows is above k w err) e = absurd (cc)
+-- only a page that is none of rows of documents is said to be bad, and no fault is met
+module _ {A D : Type 0} (device : Disk D) (f g : FramesValue D) (p : Pass) (page : ℕ) (content : Page)
+    (old new : Cleanup) where
+  pub noted_cause : IsPassOf f p → ((IsRowPage content → ⊥) → IsBadList device f p page) → (r : Result A PlaceError)
+      → HasNoted page content old new r → IfErr r (λ e. Finds device f p (IsCause device g e))
+  noted_cause of bad r (HasNoted.bad off same is) =
+      subst (λ (x : Result A PlaceError). IfErr x (λ e. Finds device f p (IsCause device g e))) (sym is)
+      (finds_now device f p (IsCause device g (BadPage page)) of (bad off))
+  noted_cause of bad r (HasNoted.ends rows is b next x ok) =
+      subst (λ (x : Result A PlaceError). IfErr x (λ e. Finds device f p (IsCause device g e))) (sym ok) tt
+  noted_cause of bad r (HasNoted.taken rows is above t x ok) =
+      subst (λ (x : Result A PlaceError). IfErr x (λ e. Finds device f p (IsCause device g e))) (sym ok) tt
+  noted_cause of bad r (HasNoted.kept rows is above k err) =
+      subst (λ (x : Result A PlaceError). IfErr x (λ e. Finds device f p (IsCause device g e))) (sym err)
+      (finds_now device f p (IsCause device g OutOfMemory) of tt)
+
+  pub noted_told : MetNoFault device f g → (r : Result A PlaceError) → HasNoted page content old new r
+      → IfErr r (λ e. FaultBy device f g e)
+  noted_told none r (HasNoted.bad off same is) =
+      subst (λ (x : Result A PlaceError). IfErr x (λ e. FaultBy device f g e)) (sym is) none
+  noted_told none r (HasNoted.ends rows is b next x ok) =
+      subst (λ (x : Result A PlaceError). IfErr x (λ e. FaultBy device f g e)) (sym ok) tt
+  noted_told none r (HasNoted.taken rows is above t x ok) =
+      subst (λ (x : Result A PlaceError). IfErr x (λ e. FaultBy device f g e)) (sym ok) tt
+  noted_told none r (HasNoted.kept rows is above k err) =
+      subst (λ (x : Result A PlaceError). IfErr x (λ e. FaultBy device f g e)) (sym err) none
 
 -- why the page is not held
 pub read_cause : {D : Type 0} (device : Disk D) (f l : FramesValue D) (p : Pass) (page : ℕ) → IsPassOf f p
@@ -115,8 +135,8 @@ module _ {D : Type 0} (device : Disk D) (line : LineHolds) (fresh : FreshHolds) 
   now_seen t up R stands legal P shown =
       subst (λ (n : ℕ). P n ≡ content) number (seen t up R stands legal P shown ∙ sym same)
 
-  pub read_noted : (from : ℕ) (old new : Cleanup) (b : Vec ℕ Global) → old.stage ≡ stage.Reading page b
-      → length old.counts.items < old.left → (result : Result Bool AllocError) → HasNoted content old new result
+  pub read_noted : {A : Type 0} (from : ℕ) (old new : Cleanup) (b : Vec ℕ Global) → old.stage ≡ stage.Reading page b
+      → length old.counts.items < old.left → (result : Result A PlaceError) → HasNoted page content old new result
       → IsCleaning device f p from old → IsCleaning device h r from new
   read_noted from old new b at few result how was =
       let then = cleaning_still device line fresh pairs f g p q [] (none_held device f p of none) of right to from old

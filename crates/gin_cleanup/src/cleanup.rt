@@ -149,23 +149,22 @@ impl Cleanup {
         }
     }
 
-    /// Notes the rows of a page, and what is read after it, or ends the batch before it. False where it is
-    /// no page of rows.
-    fn note(&mut self, alloc: Global, content: &Page) -> Result<bool, AllocError>
-        ensures { HasNoted content.now self.old self.new result }
+    /// Notes the rows of this page, and what is read after it, or ends the batch before it.
+    fn note(&mut self, alloc: Global, page: u32, content: &Page) -> Result<(), PlaceError>
+        ensures { HasNoted page content.now self.old self.new result }
     {
         let Some(rows) = rows_of(content) else {
-            return Ok(false);
+            return Err(PlaceError::BadPage { page });
         };
         if !are_documents(rows) {
-            return Ok(false);
+            return Err(PlaceError::BadPage { page });
         }
         if self.ends_before(rows) {
             self.next_key();
-            return Ok(true);
+            return Ok(());
         }
         self.take(alloc, rows, content.right)?;
-        Ok(true)
+        Ok(())
     }
 
     /// Reads this page of the list, which is next, or ends the batch before it.
@@ -200,12 +199,8 @@ impl Cleanup {
             return Ok(());
         }
         let (held, _) = hold_seen(frames, pass, page)?;
-        let noted = self.note(alloc, held.page());
+        let noted = self.note(alloc, page, held.page());
         release(frames, pass, held);
-        match noted {
-            Ok(true) => Ok(()),
-            Ok(false) => Err(PlaceError::BadPage { page }),
-            Err(_) => Err(PlaceError::OutOfMemory),
-        }
+        noted
     }
 }

@@ -4,8 +4,6 @@ ghost use Rattle.wal.specs.Waiting.{down_of};
 ghost use Rattle.page_types.specs.Numbers.{page_limit};
 ghost use Rattle.page_types.specs.Pages.{IsPage};
 ghost use Rattle.page_types.specs.declared.page.Body.TheVariants as body;
-ghost use Rattle.page_types.specs.declared.record.Kind.TheVariants as kind;
-ghost use Rattle.core_state.specs.Steps.{sheet};
 ghost use Rattle.buffer_frames.specs.LogCauses.{IsCalm};
 ghost use Rattle.buffer_frames.specs.Passes.{IsPassOf, IsHolding, Seen};
 ghost use Rattle.gin_place.specs.Placing.{HasRight};
@@ -22,13 +20,13 @@ ghost use Rattle.gin_cleanup.specs.declared.cleanup.Stage.TheVariants as stages;
 use crate::asks::Length;
 use crate::cleanup::{Cleanup, Stage};
 use crate::listed::{ListNames, META_PAGE, named_by, rows_of};
-use buffer_frames::{Frames, Held, Pass, Sheet, Step};
+use buffer_frames::{Frames, Held, Pass, Step};
 use core_maintenance::{
     found_stays, fresh_rows_hold, moving_steps_hold, placing_keeps, shift_keeps,
 };
 use core_state::pages_hold;
 use disk_trait::Disk;
-use gin_place::{PlaceError, hold_page, hold_seen, release};
+use gin_place::{PlaceError, hold_page, hold_seen, release, two_step};
 use page_types::{Body, Gone, Kind, Page, Rows};
 use std::alloc::{AllocError, Global};
 
@@ -171,22 +169,6 @@ fn deleted(page: &Page, rows: &Rows) -> Result<Page, AllocError>
     })
 }
 
-/// The Shift that leaves these pages under the numbers of the two that are held.
-fn made_step(alloc: Global, meta: (&Held, Page), page: (&Held, Page)) -> Result<Step, AllocError>
-    ensures step { IfOk result (λ s. s ≡ record {
-      kind = kind.Shift;
-      xid = 0;
-      after = sheet (meta.entry.0).now.page meta.entry.1 ∷ sheet (page.entry.0).now.page page.entry.1 ∷ [];
-    }) }
-    ensures low { OnOk result (((meta.entry.0).now.page < page_limit)
-        × ((page.entry.0).now.page < page_limit)) }
-{
-    let mut step = Step::new(alloc, Kind::Shift, 0);
-    step.leave(Sheet::new(meta.0.number(), meta.1))?;
-    step.leave(Sheet::new(page.0.number(), page.1))?;
-    Ok(step)
-}
-
 /// The step by which the first page goes, which has these rows.
 fn shift_step(alloc: Global, first: &First, rows: &Rows) -> Result<Step, AllocError>
     requires names { first.now.meta.content.body
@@ -195,9 +177,14 @@ fn shift_step(alloc: Global, first: &First, rows: &Rows) -> Result<Step, AllocEr
     ensures { IfOk result (IsShiftStep first.now.meta first.now.page) }
 {
     let (meta, page) = (first.meta.page(), first.page.page());
-    let meta_then = meta_without(meta, first.names, page.right);
     let gone = deleted(page, rows)?;
-    made_step(alloc, (&first.meta, meta_then), (&first.page, gone))
+    let meta_then = meta_without(meta, first.names, page.right);
+    two_step(
+        alloc,
+        Kind::Shift,
+        (&first.meta, meta_then),
+        (&first.page, gone),
+    )
 }
 
 /// What becomes of the first page, of which so many rows were noted, where the list may be read again so

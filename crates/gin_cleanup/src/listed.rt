@@ -12,7 +12,7 @@ use std::alloc::{AllocError, Global};
 pub(crate) const META_PAGE: u32 = 0;
 
 /// What the metapage names.
-#[derive(Clone, Copy, Debug)]
+#[derive(Clone, Copy)]
 pub(crate) struct ListNames {
     /// The first page of the list, 0 where it is empty.
     pub(crate) first: u32,

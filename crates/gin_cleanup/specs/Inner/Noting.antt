@@ -1,7 +1,5 @@
 -- What is noted of a page that was read.
-use Rattle.std.specs.Prelude.{◌≡◌, ◌≢◌, ◌⊎◌, ◌↔◌, ◌<◌, ℕ, List, [], ◌∷◌, ◌++◌, length, map, Vec, Bool, true, false}
-use Rattle.std.specs.Prelude.{Result, Ok, Err}
-use Rattle.std.specs.declared.alloc.AllocError.{AllocError}
+use Rattle.std.specs.Prelude.{◌≡◌, ◌≢◌, ◌⊎◌, ◌↔◌, ◌<◌, ℕ, List, [], ◌∷◌, ◌++◌, length, map, Vec, Result, Ok, Err}
 use Rattle.std.specs.declared.alloc.Global.{Global}
 use Rattle.page_types.specs.declared.page.Page.{Page}
 use Rattle.page_types.specs.declared.page.Row.{Row}
@@ -9,6 +7,8 @@ use Rattle.page_types.specs.declared.page.Body.TheVariants as body
 use Rattle.ts_base.specs.Keys.{Key}
 use Rattle.core_state.specs.Log.{In}
 use Rattle.core_state.specs.Index.{InRows}
+use Rattle.gin_place.specs.declared.error.PlaceError.{PlaceError}
+use Rattle.gin_place.specs.declared.error.PlaceError.TheVariants.{BadPage, OutOfMemory}
 use Rattle.gin_cleanup.specs.Gathered.{Has, GrowsBy}
 use Rattle.gin_cleanup.specs.Going.{IsRowPage}
 use Rattle.gin_cleanup.specs.Inner.Between.{HasNext}
@@ -56,13 +56,14 @@ pub record EndsBefore (rows : List Row) (c : Cleanup) : Type 0 where
   pub some : c.counts.items ≢ []
   pub other : GoesOnWith rows before.items → ⊥
 
--- It is no page of rows of documents, and nothing is done; or the batch ends before it; or its rows are
--- noted. A refusal may leave some of their pairs.
-pub data HasNoted (content : Page) (old new : Cleanup) (result : Result Bool AllocError) : Type 0 where
-  bad : (IsRowPage content → ⊥) → new ≡ old → result ≡ Ok false → HasNoted content old new result
-  ends : (rows : List Row) → content.body ≡ body.Pending rows → EndsBefore rows old → HasNext old new
-      → result ≡ Ok true → HasNoted content old new result
-  taken : (rows : List Row) → content.body ≡ body.Pending rows → AreOfDocuments rows
-      → HasTaken rows content.right old new → result ≡ Ok true → HasNoted content old new result
-  kept : (rows : List Row) → content.body ≡ body.Pending rows → AreOfDocuments rows → HasKept rows old new
-      → (e : AllocError) → result ≡ Err e → HasNoted content old new result
+-- The page with this number is none of rows of documents, and nothing is done; or the batch ends before it; or its
+-- rows are noted. A refusal for memory may leave some of their pairs.
+pub data HasNoted {A : Type 0} (page : ℕ) (content : Page) (old new : Cleanup) (result : Result A PlaceError) : Type 0
+  where
+    bad : (IsRowPage content → ⊥) → new ≡ old → result ≡ Err (BadPage page) → HasNoted page content old new result
+    ends : (rows : List Row) → content.body ≡ body.Pending rows → EndsBefore rows old → HasNext old new
+        → (x : A) → result ≡ Ok x → HasNoted page content old new result
+    taken : (rows : List Row) → content.body ≡ body.Pending rows → AreOfDocuments rows
+        → HasTaken rows content.right old new → (x : A) → result ≡ Ok x → HasNoted page content old new result
+    kept : (rows : List Row) → content.body ≡ body.Pending rows → AreOfDocuments rows → HasKept rows old new
+        → result ≡ Err OutOfMemory → HasNoted page content old new result

@@ -15,5 +15,5 @@ returns c =
     (subst (λ (x : Page). IsMetaWithout x c.page-page.result.now.right meta_then) c.page-meta.ensures.value
     c.meta_without-meta_then.ensures.without))
     (subst (λ (x : Page). IsDeletedOf x gone) c.page-page.ensures.value c.in_ok-gone.ensures.deleted)
-    (c.meta_without-meta_then.ensures.is_page, c.in_ok-gone.ensures.is_page) c.made_step.result
-    c.made_step.ensures.step c.made_step.ensures.low
+    (c.meta_without-meta_then.ensures.is_page, c.in_ok-gone.ensures.is_page) c.two_step.result
+    c.two_step.ensures.step c.two_step.ensures.low

@@ -42,3 +42,6 @@ returns-clause-ok c =
     let past : length rows ≤ c.loop-k.k = omega (arith, c.loop-k-test.false, c.len-k-end.ensures) in
     λ k i. subst (λ (ws : List Row). Has c.loop-k.self k i ↔ (Has c.args.self.now k i ⊎ InRows ws k i))
     (take_all c.loop-k.k rows past) (c.loop-k.invariant k i)
+
+pub loop-k-init : goal.loop-k-init
+loop-k-init c = λ k i. (λ h. inl h, λ h. elim h [ inl o ↦ o | inr r ↦ absurd r.1 ])
