@@ -1,5 +1,5 @@
 -- The pages around an empty leaf, one after another held.
-use Rattle.std.proofs.Common.{◌≡◌, ◌<◌, ℕ, List, [], ◌∷◌, length, arith}
+use Rattle.std.proofs.Common.{◌≡◌, ◌<◌, ◌∙◌, ℕ, List, [], ◌∷◌, ◌++◌, length, sym, ap, arith}
 use Rattle.std.specs.Prelude.{Option, Some, None}
 use Rattle.disk_trait.specs.declared.device.Disk.{Ghosts as Disk}
 use Rattle.core_state.specs.Allowed.{Sheet}
@@ -12,11 +12,28 @@ use Rattle.gin_place.specs.Causes.{Finds}
 use Rattle.gin_place.specs.declared.error.PlaceError.{PlaceError}
 use Rattle.gin_place.proofs.Causing.{Later, finds_as}
 use Rattle.gin_vacuum.specs.Stepping.{IsCause}
-use Rattle.gin_vacuum.specs.Inner.Deleting.{with_before, IsFoundEmpty}
+use Rattle.gin_vacuum.specs.Inner.Deleting.{with_before, around_pages, IsFoundEmpty}
 use Rattle.gin_vacuum.specs.declared.deleting.Empty.{Empty}
+use Rattle.gin_vacuum.specs.declared.deleting.Around.{Around}
 use Rattle.gin_vacuum.specs.declared.sweeping.Stage.TheVariants as stage
 use Rattle.gin_vacuum.proofs.SweepCauses.{cause_later}
 use Rattle.gin_vacuum.proofs.Swept.{at_on}
+
+-- the pages of which the last one comes first, where there is a leaf before the empty one, and where there is none
+pub around_some : (a : Around) (b : Sheet) (l0 l1 l2 l3 l4 : List Sheet) → a.before ≡ Some b → l0 ≡ [] → l1 ≡ l0
+    → l2 ≡ l1 ++ a.leaf ∷ [] → l3 ≡ l2 ++ b ∷ [] → l4 ≡ l3 ++ a.parent ∷ [] → l4 ≡ around_pages a
+around_some a b l0 l1 l2 l3 l4 is e0 e1 e2 e3 e4 =
+    e4
+    ∙ ap (λ (l : List Sheet). l ++ a.parent ∷ [])
+    (e3 ∙ ap (λ (l : List Sheet). l ++ b ∷ []) (e2 ∙ ap (λ (l : List Sheet). l ++ a.leaf ∷ []) (e1 ∙ e0)))
+    ∙ ap (λ (o : Option Sheet). a.leaf ∷ with_before o (a.parent ∷ [])) (sym is)
+
+pub around_none : (a : Around) (l0 l1 l2 l3 : List Sheet) → a.before ≡ None → l0 ≡ [] → l1 ≡ l0
+    → l2 ≡ l1 ++ a.leaf ∷ [] → l3 ≡ l2 ++ a.parent ∷ [] → l3 ≡ around_pages a
+around_none a l0 l1 l2 l3 is e0 e1 e2 e3 =
+    e3
+    ∙ ap (λ (l : List Sheet). l ++ a.parent ∷ []) (e2 ∙ ap (λ (l : List Sheet). l ++ a.leaf ∷ []) (e1 ∙ e0))
+    ∙ ap (λ (o : Option Sheet). a.leaf ∷ with_before o (a.parent ∷ [])) (sym is)
 
 -- a leaf more may be held
 pub few_before : (b : Option Sheet) (parent : Sheet) (n : ℕ) → length (with_before b (parent ∷ [])) ≡ n → n < 4

@@ -57,6 +57,7 @@ mod SweptOn
 mod Remains
 mod Cleaned
 mod LeftParent
+mod LeftSheets
 mod DeleteMade
 mod AroundHeld
 mod ParentHeld

@@ -2,6 +2,7 @@
 use Rattle.std.proofs.Common.{◌≡◌, ◌≢◌, ◌<◌, ◌-◌, ℕ, List, [], ◌∷◌, length, refl, sym, ap, subst, inl}
 use Rattle.std.proofs.Common.{inr, arith}
 use Rattle.std.proofs.Common.{length-drop, Some}
+use Rattle.std.specs.Prelude.{Option, None}
 use Rattle.disk_trait.specs.declared.device.Disk.{Ghosts as Disk}
 use Rattle.page_types.specs.Numbers.{page_limit}
 use Rattle.page_types.specs.Pages.{IsPage}
@@ -20,14 +21,22 @@ use Rattle.buffer_frames.specs.Frames.{FramesValue, Stands}
 use Rattle.buffer_frames.specs.Passes.{view_of}
 use Rattle.buffer_frames.specs.declared.pass.Pass.{Pass}
 use Rattle.buffer_frames.proofs.AtHand.{log_length}
+use Rattle.gin_place.specs.Holding.{ReadsOn}
 use Rattle.gin_place.proofs.Owing.{right_of}
 use Rattle.gin_vacuum.specs.Inner.Logging.{MayLogStep}
-use Rattle.gin_vacuum.specs.Inner.Sweeping.{IsRemoval}
+use Rattle.gin_vacuum.specs.Inner.Sweeping.{IsRemoval, HasCleaned}
 
 -- a leaf that is left is no free page
 left_used : (gone : List ℕ) (old new : Body) → IsLeafLeft gone old new → new ≢ body.Free
 left_used gone _ _ (IsLeafLeft.entries high old new all) e = let z : ⊥ = cc in z
 left_used gone _ _ (IsLeafLeft.postings high old new all) e = let z : ⊥ = cc in z
+
+-- where a leaf has no dead item nothing is logged
+pub none_cleaned : {D : Type 0} (device : Disk D) (f g : FramesValue D) (p q : Pass) (held : Sheet)
+    (cleaned : Option Page) → ((x : Page) → cleaned ≡ Some x → ⊥) → ReadsOn device f p g q
+    → HasCleaned device f p g q held cleaned
+none_cleaned device f g p q held None not reads = reads
+none_cleaned device f g p q held (Some x) not reads = absurd (not x refl)
 
 abbrev pub removal_step : ℕ → Page → Step
 removal_step page new = record { kind = kind.RemoveItems; xid = 0; after = sheet page new ∷ [] }

@@ -10,7 +10,6 @@ use Rattle.buffer_frames.specs.Passes.{IsPassOf}
 use Rattle.buffer_frames.specs.declared.pass.Pass.{Pass}
 use Rattle.gin_place.specs.Faults.{MetNoFault}
 use Rattle.gin_place.specs.declared.error.PlaceError.{PlaceError}
-use Rattle.gin_place.specs.declared.error.PlaceError.TheVariants.{OutOfMemory}
 use Rattle.gin_place.proofs.Causing.{finds_as}
 use Rattle.gin_place.proofs.Carrying.{reads_still, same_added}
 use Rattle.gin_place.proofs.Faults.{fine_still}
@@ -26,7 +25,6 @@ use Rattle.gin_vacuum.proofs.Endings.{never_bad, meets_by}
 use Rattle.gin_vacuum.proofs.InTurn.{all_then, vacuums_in_turn}
 use Rattle.gin_vacuum.proofs.Logs.{reads_vacuum}
 use Rattle.gin_vacuum.proofs.SweepCauses.{cause_as}
-use Rattle.gin_vacuum.proofs.SweptOn.{swept_to}
 
 -- the records of steps one after another
 abbrev pub Swept : {D : Type 0} → Disk D → FramesValue D → Pass → FramesValue D → Pass → Type 0
@@ -82,31 +80,9 @@ module _ {D : Type 0} (device : Disk D) where
           (finds_as device m q (IsCause device (IsBad device old) g e) (IsCause device (IsBadIn device) g e)
           (λ h x c. cause_as device (IsBad device old) (IsBadIn device) g e h x (λ n bad. (old, bad)) c) s.cause)
 
-      -- as many steps were made as there are numbers
-      pub sweep_spent : VacuumMeets device f p m (IsCause device (IsBadIn device) m OutOfMemory)
-      sweep_spent = (
-        m,
-        q,
-        before.0,
-        before.2,
-        fine,
-        λ R s. let on = before.2.added.on R s in (on.0, on.2, on.1, on.1),
-        tt,
-      )
-
       pub sweep_lawful : {T : Type 0} (e : PlaceError) → HasSwept {T = T} device m q g r dead old new (Err e)
           → NeverBad device f e
       sweep_lawful e s = never_bad device f m p q before.0 e before.2 fine s.lawful
-
-  -- what an arm of a step leaves
-  pub swept_arm : {A : Type 0} (f g g' : FramesValue D) (p q q' : Pass) (dead : List ℕ) (old new new' : Sweeping)
-      (r : Result A PlaceError) (x : A) (b : Bool) → r ≡ Ok x → g' ≡ g → q' ≡ q → new' ≡ new
-      → HasSwept device f p g q dead old new r → HasSwept {T = Bool} device f p g' q' dead old new' (Ok b)
-  swept_arm f g g' p q q' dead old new new' r x b is to_g to_q to_new s =
-      subst (λ (h : FramesValue D). HasSwept {T = Bool} device f p h q' dead old new' (Ok b)) (sym to_g)
-      (subst (λ (t : Pass). HasSwept {T = Bool} device f p g t dead old new' (Ok b)) (sym to_q)
-      (subst (λ (n : Sweeping). HasSwept {T = Bool} device f p g q dead old n (Ok b)) (sym to_new)
-      (swept_to device f g p q dead old new x b (subst (HasSwept device f p g q dead old new) is s))))
 
   -- at the end no dead item is left
   pub sweep_ends : (g : FramesValue D) (r : Pass) (dead : List ℕ) (s : Sweeping) → s.stage ≡ stage.Done

@@ -11,7 +11,7 @@ use page_types::{Body, MOST_SLOTS};
 use std::alloc::{AllocError, Global};
 
 /// The first heap page that is not below this one.
-#[derive(Clone, Copy, Debug)]
+#[derive(Clone, Copy)]
 pub(crate) struct HeapFrom {
     pub(crate) page: u32,
 }

@@ -21,8 +21,8 @@ ghost use Rattle.gin_vacuum.specs.Inner.Deleting.{IsAround, IsDeleteStep, IsWith
 ghost use Rattle.gin_vacuum.specs.Inner.Deleting.{LogsDelete};
 ghost use Rattle.gin_vacuum.specs.Inner.Logging.{MayLogStep, LogsStep, CannotLog};
 
-use crate::logging::{log_pages, one_step};
-use buffer_frames::{Frames, Held, Pass, Sheet, Step};
+use crate::logging::{leave, log_pages};
+use buffer_frames::{Frames, Held, Pass, Step};
 use core_maintenance::found_stays;
 use core_vacuum::{leaves_stand, vacuum_steps_hold};
 use disk_trait::Disk;
@@ -32,7 +32,7 @@ use std::alloc::{AllocError, Global};
 
 /// An empty leaf of a posting tree, its high item and its right link, and the leaf before it, 0 where it
 /// is the first.
-#[derive(Clone, Copy, Debug, PartialEq, Eq)]
+#[derive(Clone, Copy)]
 pub(crate) struct Empty {
     pub(crate) root: u32,
     pub(crate) before: u32,
@@ -239,21 +239,45 @@ fn linked(page: &Page, link: u32) -> Result<Page, AllocError>
     })
 }
 
-/// The step leaves the leaf before an empty one, if there is one, with this link.
-fn link_before(step: Step, before: &Option<Held>, link: u32) -> Result<Step, AllocError>
+/// The step leaves the leaf before an empty one too, if there is one, with this link.
+fn leave_before(step: &mut Step, before: &Option<Held>, link: u32) -> Result<(), AllocError>
     requires leaf { IfSome before.now (λ b. (old : ℕ) × LeadsTo old b.content) }
     requires link { (link ≢ 0) × (link < page_limit) }
-    ensures left { IfOk result (λ s. s ≡ record step { after = step.after ++ left_before link before.now }) }
+    ensures left { OnOk result
+        (step.new ≡ record step.old { after = step.old.after ++ left_before link before.now }) }
     ensures is_page { OnOk result (IfSome before.now (λ b. IsPage (record b.content { right = link }))) }
     ensures low { OnOk result (IfSome before.now (λ b. b.page < page_limit)) }
 {
     let Some(before) = before else {
-        return Ok(step);
+        return Ok(());
     };
     let page = linked(before.page(), link)?;
-    let mut step = step;
-    step.leave(Sheet::new(before.number(), page))?;
-    Ok(step)
+    leave(step, before, page)?;
+    Ok(())
+}
+
+/// The step leaves an empty leaf too, deleted, and the leaf before it, if there is one, with its link.
+fn leave_leaves(
+    alloc: Global,
+    step: &mut Step,
+    around: &Around,
+    empty: Empty,
+) -> Result<(), AllocError>
+    requires leaf { IsEmptyPage empty around.now.leaf.content }
+    requires before { IsBefore empty around.now.before }
+    requires high { 0 < empty.high }
+    ensures left { OnOk result (step.new ≡ record step.old {
+      after = (step.old.after ++ sheet around.now.leaf.page (deleted_leaf empty.high around.now.leaf.content) ∷ [])
+          ++ left_before empty.link around.now.before;
+    }) }
+    ensures gone { IsPage (deleted_leaf empty.high around.now.leaf.content) }
+    ensures low { around.now.leaf.page < page_limit }
+    ensures is_page { OnOk result (IfSome around.now.before (λ b. IsPage (record b.content { right = empty.link }))) }
+    ensures before_low { OnOk result (IfSome around.now.before (λ b. b.page < page_limit)) }
+{
+    let gone = deleted(alloc, around.leaf.page(), empty.high);
+    leave(step, &around.leaf, gone)?;
+    leave_before(step, &around.before, empty.link)
 }
 
 /// The step by which an empty leaf goes: it is deleted, the leaf before it, if any, gets its link, and the
@@ -270,10 +294,16 @@ fn delete_step(
     requires fits { IsPage without }
     ensures step { IfOk result (IsDeleteStep empty around.now without) }
 {
-    let gone = deleted(alloc, around.leaf.page(), empty.high);
-    let step = one_step(alloc, Kind::DeletePost, (&around.leaf, gone))?;
-    let mut step = link_before(step, &around.before, empty.link)?;
-    step.leave(Sheet::new(around.parent.number(), without))?;
+    let mut step = Step::new(alloc, Kind::DeletePost, 0);
+    match leave_leaves(alloc, &mut step, around, empty) {
+        Ok(()) => {}
+        Err(error) => {
+            // one call to prove; left to go out of scope it is walked through
+            drop(without);
+            return Err(error);
+        }
+    }
+    leave(&mut step, &around.parent, without)?;
     Ok(step)
 }
 
@@ -366,7 +396,14 @@ pub(crate) fn delete_leaf<D: Disk>(
 {
     vacuum_steps_hold();
     leaves_stand();
-    let around = hold_around(frames, pass, parent, empty)?;
+    let around = match hold_around(frames, pass, parent, empty) {
+        Ok(around) => around,
+        Err(error) => {
+            // one call to prove; left to go out of scope it is walked through
+            drop(without);
+            return Err(error);
+        }
+    };
     match delete_step(alloc, &around, without, empty) {
         Ok(step) => log_around(alloc, frames, pass, around, step),
         Err(_) => {

@@ -74,14 +74,16 @@ fn read_dead<D: Disk>(
     documents_hold();
     pages_hold();
     let held = hold_page(frames, pass, page)?;
-    let (number, was_heap) = (held.number(), is_heap(held.page()));
-    let found = frames.look(pass, &DeadOn { alloc, held: &held });
-    release(frames, pass, held);
-    if !was_heap {
+    let number = held.number();
+    if !is_heap(held.page()) {
+        release(frames, pass, held);
         return Err(PlaceError::BadPage { page: number });
     }
+    let found = frames.look(pass, &DeadOn { alloc, held: &held });
+    release(frames, pass, held);
     match found {
-        Ok(dead) => Ok(dead?),
+        Ok(Ok(dead)) => Ok(dead),
+        Ok(Err(_)) => Err(PlaceError::OutOfMemory),
         Err(error) => Err(PlaceError::from(error)),
     }
 }

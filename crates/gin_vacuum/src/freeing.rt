@@ -1,21 +1,22 @@
 // Dead documents lose their chains, and then their slots.
-ghost use Rattle.std.specs.Prelude.{◌≡◌, ◌≢◌, ◌↔◌, ℕ, ◌-◌, ◌<◌, ◌≤◌, List, [], ◌∷◌, length, take, drop, true, Some};
-ghost use Rattle.std.specs.Prelude.{get_or, IfOk, IfErr, OnOk, OnErr, IfSome, IfNone};
+ghost use Rattle.std.specs.Prelude.{◌≡◌, ◌≢◌, ◌↔◌, ℕ, ◌-◌, ◌<◌, ◌≤◌, List, [], ◌∷◌, length, take, drop, true};
+ghost use Rattle.std.specs.Prelude.{Some, false, get_or, IfOk, IfErr, OnOk, OnErr, IfSome, IfNone};
 ghost use Rattle.std.specs.List.{AllByRecursion};
 ghost use Rattle.wal.specs.Waiting.{down_of};
 ghost use Rattle.page_types.specs.Items.{AreItems};
-ghost use Rattle.page_types.specs.Numbers.{page_limit, item_limit};
+ghost use Rattle.page_types.specs.Numbers.{item_limit};
 ghost use Rattle.page_types.specs.Pages.{IsPage};
 ghost use Rattle.page_types.specs.Parts.{head_with};
+ghost use Rattle.page_types.specs.declared.page.Head.{Head as HeadValue};
 ghost use Rattle.core_state.specs.Log.{In};
 ghost use Rattle.core_state.specs.Allowed.{Sheet as SheetValue};
-ghost use Rattle.core_state.specs.Steps.{sheet};
 ghost use Rattle.core_state.specs.Documents.{page_of, slot_of};
 ghost use Rattle.core_vacuum.specs.Leaving.{IsOut};
 ghost use Rattle.buffer_frames.specs.Frames.{Behind, Lies};
 ghost use Rattle.buffer_frames.specs.LogCauses.{IsCalm};
 ghost use Rattle.buffer_frames.specs.Passes.{IsPassOf, IsHolding, Seen};
-ghost use Rattle.doc_heap.specs.Leaving.{first_of};
+ghost use Rattle.doc_heap.specs.HeapPages.{head_on, ChangesSlot};
+ghost use Rattle.doc_heap.specs.Leaving.{first_of, with_first};
 ghost use Rattle.gin_place.specs.Placing.{HasRight};
 ghost use Rattle.gin_place.specs.Causes.{Finds, CannotUse};
 ghost use Rattle.gin_place.specs.Faults.{MetNoFault, FaultBy};
@@ -26,12 +27,12 @@ ghost use Rattle.gin_vacuum.specs.Ending.{VacuumMeets, NeverBad};
 ghost use Rattle.gin_vacuum.specs.Vacuum.{AreOut, AreFreedSince};
 ghost use Rattle.gin_vacuum.specs.Freeing.{IsFreeing, IsFreeKind, IsPageOf, CannotFree, ComesNearer, HasFreed};
 ghost use Rattle.gin_vacuum.specs.Inner.Freeing.{IsChained, HasNoChain, AreFree, IsDeletedOf, IsDropStep, IsFreeStep};
-ghost use Rattle.gin_vacuum.specs.Inner.Freeing.{LogsDrop, LogsFree};
+ghost use Rattle.gin_vacuum.specs.Inner.Freeing.{LeavesBoth, LogsDrop, LogsFree};
 ghost use Rattle.gin_vacuum.specs.Inner.Logging.{MayLogStep, LogsStep, CannotLog};
 
 use crate::finding::is_heap;
-use crate::logging::{log_one, log_pages, one_step};
-use buffer_frames::{Frames, Held, Pass, Sheet, Step};
+use crate::logging::{leave, log_one, log_pages, one_step};
+use buffer_frames::{Frames, Held, Pass, Step};
 use core_maintenance::placing_keeps;
 use core_state::{documents_hold, records_keep};
 use core_vacuum::{out_stays, vacuum_keeps, vacuum_steps_hold};
@@ -50,7 +51,7 @@ pub struct Freeing {
 }
 
 /// A chain of a document that has pages left.
-#[derive(Clone, Copy, Debug)]
+#[derive(Clone, Copy)]
 pub(crate) struct Chained {
     pub(crate) item: u32,
     pub(crate) serial: u64,
@@ -153,24 +154,36 @@ fn deleted(page: &Page, chain: Chain) -> Result<Option<Page>, AllocError>
     }))
 }
 
-/// The step of this kind that leaves these pages under the numbers of two that are held.
-fn two_step(
-    alloc: Global,
-    kind: Kind,
-    first: (&Held, Page),
-    second: (&Held, Page),
-) -> Result<Step, AllocError>
-    ensures step { IfOk result (λ s. s ≡ record {
-      kind = kind;
-      xid = 0;
-      after = sheet (first.entry.0).now.page first.entry.1 ∷ sheet (second.entry.0).now.page second.entry.1 ∷ [];
-    }) }
-    ensures low { OnOk result (((first.entry.0).now.page < page_limit)
-        × ((second.entry.0).now.page < page_limit)) }
+/// The heap page without the first page of a chain.
+fn without_first(both: &Both, found: Chained) -> Result<Page, AllocError>
+    requires { IsChained both.now.heap.content found }
+    ensures changes { IfOk result (λ p. (h : HeadValue)
+        → head_on both.now.heap.content (slot_of found.item) ≡ Some h
+        → ChangesSlot both.now.heap.content (slot_of found.item)
+        (Some (with_first found.chain both.now.page.content.right h)) p) }
+    ensures is_page { IfOk result IsPage }
 {
-    let mut step = one_step(alloc, kind, first)?;
-    step.leave(Sheet::new(second.0.number(), second.1))?;
-    Ok(step)
+    let mut heap = both.heap.page().clone()?;
+    let next = both.page.page().right;
+    drop_page(&mut heap, slot_in(found.item), found.chain, next);
+    Ok(heap)
+}
+
+/// The step leaves both pages too, as they are once the first page of a chain is gone; false where that is
+/// no page of such a chain.
+fn leave_both(step: &mut Step, both: &Both, found: Chained) -> Result<bool, AllocError>
+    requires { IsChained both.now.heap.content found }
+    ensures left { IfOk result (λ b. b ≡ true → LeavesBoth both.now.heap both.now.page found step.old step.new) }
+    ensures none { IfOk result (λ b. b ≡ false → IsPage both.now.page.content
+        × (IsPageOf found.chain both.now.page.content → ⊥)) }
+{
+    let heap = without_first(both, found)?;
+    leave(step, &both.heap, heap)?;
+    let Some(gone) = deleted(both.page.page(), found.chain)? else {
+        return Ok(false);
+    };
+    leave(step, &both.page, gone)?;
+    Ok(true)
 }
 
 /// The step by which the first page of a chain goes; none where it is no page of such a chain.
@@ -180,17 +193,16 @@ fn drop_step(alloc: Global, both: &Both, found: Chained) -> Result<Option<Step>,
     ensures none { IfOk result (λ o. IfNone o (IsPage both.now.page.content
         × (IsPageOf found.chain both.now.page.content → ⊥))) }
 {
-    let page = both.page.page();
-    let Some(gone) = deleted(page, found.chain)? else {
-        return Ok(None);
-    };
-    let mut heap = both.heap.page().clone()?;
-    drop_page(&mut heap, slot_in(found.item), found.chain, page.right);
     let kind = Kind::DropPage {
         item: found.item,
         serial: found.serial,
     };
-    Ok(Some(two_step(alloc, kind, (&both.heap, heap), (&both.page, gone))?))
+    let mut step = Step::new(alloc, kind, 0);
+    let is_chain = leave_both(&mut step, both, found)?;
+    if !is_chain {
+        return Ok(None);
+    }
+    Ok(Some(step))
 }
 
 /// Gives both pages back.
@@ -317,10 +329,12 @@ fn free_step(alloc: Global, heap: &Held, items: &[u32]) -> Result<Option<Step>, 
     ensures none { IfOk result (λ o. IfNone o (AreFree heap.now.content items.now)) }
 {
     let mut page = heap.page().clone()?;
-    if !free_items(&mut page, items) {
+    let frees = free_items(&mut page, items);
+    let step = one_step(alloc, Kind::FreeSlots, heap, page)?;
+    if !frees {
         return Ok(None);
     }
-    Ok(Some(one_step(alloc, Kind::FreeSlots, (heap, page))?))
+    Ok(Some(step))
 }
 
 /// Makes the slots of these items free on a heap page that is held; it is given back.

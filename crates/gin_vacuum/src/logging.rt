@@ -1,5 +1,5 @@
 // Records on pages that are held.
-ghost use Rattle.std.specs.Prelude.{◌≡◌, ◌<◌, [], ◌∷◌, IfOk, IfErr, OnOk, OnErr};
+ghost use Rattle.std.specs.Prelude.{◌≡◌, ◌<◌, [], ◌∷◌, ◌++◌, IfOk, IfErr, OnOk, OnErr};
 ghost use Rattle.page_types.specs.Numbers.{page_limit};
 ghost use Rattle.core_state.specs.Steps.{sheet};
 ghost use Rattle.gin_place.specs.Faults.{MetNoFault, FaultBy};
@@ -37,17 +37,31 @@ pub(crate) fn log_pages<D: Disk>(
     Ok(())
 }
 
+/// The step leaves this page too, under the number of one that is held.
+pub(crate) fn leave(step: &mut Step, held: &Held, page: Page) -> Result<(), AllocError>
+    ensures left { OnOk result
+        (step.new ≡ record step.old { after = step.old.after ++ sheet held.now.page page ∷ [] }) }
+    ensures low { held.now.page < page_limit }
+{
+    step.leave(Sheet::new(held.number(), page))
+}
+
 /// The step of this kind that leaves this page under the number of one that is held.
-pub(crate) fn one_step(alloc: Global, kind: Kind, page: (&Held, Page)) -> Result<Step, AllocError>
+pub(crate) fn one_step(
+    alloc: Global,
+    kind: Kind,
+    held: &Held,
+    page: Page,
+) -> Result<Step, AllocError>
     ensures step { IfOk result (λ s. s ≡ record {
       kind = kind;
       xid = 0;
-      after = sheet (page.entry.0).now.page page.entry.1 ∷ [];
+      after = sheet held.now.page page ∷ [];
     }) }
-    ensures low { OnOk result ((page.entry.0).now.page < page_limit) }
+    ensures low { OnOk result (held.now.page < page_limit) }
 {
     let mut step = Step::new(alloc, kind, 0);
-    step.leave(Sheet::new(page.0.number(), page.1))?;
+    leave(&mut step, held, page)?;
     Ok(step)
 }
 

@@ -1,5 +1,5 @@
 // Dead items leave the trees of the index.
-ghost use Rattle.std.specs.Prelude.{◌≡◌, ◌⊎◌, ◌↔◌, ◌<◌, ◌≤◌, ◌-◌, suc, true, false, [], ◌∷◌, ℕ, List, length, Some};
+ghost use Rattle.std.specs.Prelude.{◌≡◌, ◌≢◌, ◌⊎◌, ◌↔◌, ◌<◌, ◌≤◌, ◌-◌, suc, true, false, [], ◌∷◌, ℕ, List, length, Some};
 ghost use Rattle.std.specs.Prelude.{None, ⊤};
 ghost use Rattle.std.specs.Prelude.{Option, IfOk, IfErr, IfSome, IfNone, OnOk, OnErr, IsErrOf};
 ghost use Rattle.std.specs.List.{AllByRecursion};
@@ -52,7 +52,7 @@ use std::alloc::{AllocError, Global};
 const ROOT: u32 = 1;
 
 /// What is read next.
-#[derive(Clone, Copy, Debug, PartialEq, Eq)]
+#[derive(Clone, Copy)]
 pub(crate) enum Stage {
     /// This page of the entry tree, on the way to its first leaf.
     Down {
@@ -118,7 +118,7 @@ pub(crate) struct ReadPosts {
 }
 
 /// What comes after a page on the way to the first leaf of a tree.
-#[derive(Clone, Copy, Debug, PartialEq, Eq)]
+#[derive(Clone, Copy)]
 pub(crate) enum Below {
     /// The page is a leaf.
     Leaf,
@@ -258,7 +258,7 @@ fn log_cleaned<D: Disk>(
         release(frames, pass, held);
         return Ok(());
     };
-    match one_step(alloc, Kind::RemoveItems, (&held, page)) {
+    match one_step(alloc, Kind::RemoveItems, &held, page) {
         Ok(step) => log_one(alloc, frames, pass, held, step),
         Err(_) => {
             release(frames, pass, held);
@@ -634,6 +634,43 @@ impl Sweeping {
         }
     }
 
+    /// Whether no dead item is in the trees.
+    fn is_done(&self) -> bool
+        ensures { (result ≡ true) ↔ (self.now.stage ≡ stages.Done) }
+    {
+        matches!(self.stage, Stage::Done)
+    }
+
+    /// Reads a page, and logs a record where one is due.
+    fn work<D: Disk>(
+        &mut self,
+        alloc: Global,
+        frames: &mut Frames<D>,
+        pass: &mut Pass,
+        dead: &ItemSet,
+    ) -> Result<(), PlaceError>
+        requires pass { IsPassOf frames.old pass.old }
+        requires right { HasRight pass.old }
+        requires none { pass.old.held ≡ 0 }
+        requires not_done { self.old.stage ≢ stages.Done }
+        requires sweeping { IsSweeping D.Disk frames.old pass.old dead.now self.old }
+        ensures swept { HasSwept D.Disk frames.old pass.old frames.new pass.new dead.now self.old self.new result }
+        ensures lower { OnOk result (steps_left self.new < steps_left self.old) }
+    {
+        match self.stage {
+            Stage::Down { page } => self.go_down(frames, pass, page),
+            Stage::Leaf { page } => self.clean_leaf(alloc, frames, pass, dead, page),
+            Stage::TreeDown { root, page } => self.go_down_tree(frames, pass, root, page),
+            Stage::Posts { root, before, page } => {
+                self.clean_posts(alloc, frames, pass, dead, root, before, page)
+            }
+            Stage::Parent { empty, page, left } => {
+                self.seek_parent(alloc, frames, pass, empty, page, left)
+            }
+            Stage::Done => Ok(()),
+        }
+    }
+
     /// Reads a page, and logs a record where one is due. False exactly at the end.
     pub fn step<D: Disk>(
         &mut self,
@@ -651,19 +688,11 @@ impl Sweeping {
         ensures lower { IfOk result (λ more. more ≡ true → steps_left self.new < steps_left self.old) }
     {
         placing_keeps();
-        match self.stage {
-            Stage::Down { page } => self.go_down(frames, pass, page)?,
-            Stage::Leaf { page } => self.clean_leaf(alloc, frames, pass, dead, page)?,
-            Stage::TreeDown { root, page } => self.go_down_tree(frames, pass, root, page)?,
-            Stage::Posts { root, before, page } => {
-                self.clean_posts(alloc, frames, pass, dead, root, before, page)?;
-            }
-            Stage::Parent { empty, page, left } => {
-                self.seek_parent(alloc, frames, pass, empty, page, left)?;
-            }
-            Stage::Done => {}
+        if self.is_done() {
+            return Ok(false);
         }
-        Ok(self.stage != Stage::Done)
+        self.work(alloc, frames, pass, dead)?;
+        Ok(!self.is_done())
     }
 }
 
@@ -697,11 +726,9 @@ pub fn sweep<D: Disk>(
         return Ok(());
     }
     let mut sweeping = Sweeping::begin(alloc);
-    for _ in 0..u64::MAX {
-        if !sweeping.step(alloc, frames, pass, dead)? {
-            return Ok(());
-        }
+    let mut more = true;
+    while more {
+        more = sweeping.step(alloc, frames, pass, dead)?;
     }
-    // No store has so many pages.
-    Err(PlaceError::OutOfMemory)
+    Ok(())
 }

@@ -3,13 +3,25 @@ use Rattle.std.proofs.lemmas.Result.{err_from_is_err_and}
 use Rattle.std.proofs.lemmas.Bool.{false≢true}
 use Rattle.buffer_frames.specs.Frames.{Lies}
 use Rattle.gin_place.specs.Causes.{Finds, CannotUse}
+use Rattle.gin_place.specs.Faults.{FaultBy}
 use Rattle.gin_place.specs.declared.error.PlaceError.TheVariants.{BadPage}
-use Rattle.gin_place.proofs.Carrying.{reads_in_turn}
+use Rattle.gin_place.proofs.Carrying.{reads_in_turn, reads_still, same_added}
 use Rattle.gin_place.proofs.Causing.{at_exit, finds_now, weaker}
+use Rattle.gin_place.proofs.Faults.{calm_fine, fine_still, fine_then}
 use Rattle.gin_vacuum.specs.Stepping.{IsCause, LeadsTo}
 use Rattle.gin_vacuum.specs.Inner.Deleting.{IsBadAround}
 use Rattle.gin_vacuum.proofs.SweepCauses.{hold_cause}
 use Rattle.gin_vacuum.proofs.deleting.hold_before.Goals as goal
+
+pub returns-then-empty-eq0-clause-reads : goal.returns-then-empty-eq0-clause-reads
+returns-then-empty-eq0-clause-reads g c =
+    reads_still g.D.Disk c.args.frames.now c.args.pass.now c.requires.pass (same_added g.D.Disk c.args.frames.now)
+
+pub returns-then-empty-eq0-clause-holding : goal.returns-then-empty-eq0-clause-holding
+returns-then-empty-eq0-clause-holding g c = λ held h. h
+
+pub returns-then-empty-eq0-clause-fine : goal.returns-then-empty-eq0-clause-fine
+returns-then-empty-eq0-clause-fine g c = fine_still g.D.Disk c.args.frames.now
 
 pub returns-in_err-before-clause-cause : goal.returns-in_err-before-clause-cause
 returns-in_err-before-clause-cause g c =
@@ -43,3 +55,14 @@ returns-then-not-leads_to-clause-cause g c =
     finds_now g.D.Disk f c.args.pass.now
     (IsCause g.D.Disk (IsBadAround g.D.Disk e) c.release.new.frames (BadPage e.before)) c.requires.pass
     (IsBadAround.before refl cannot (c.requires.lawful c.if-empty-eq0.false cannot))
+
+pub returns-then-not-leads_to-clause-fault : goal.returns-then-not-leads_to-clause-fault
+returns-then-not-leads_to-clause-fault g c =
+    fine_then g.D.Disk c.args.frames.now c.hold_page.new.frames c.release.new.frames c.in_ok-before.ensures.fine
+    (calm_fine g.D.Disk c.hold_page.new.frames c.release.new.frames c.release.ensures.calm)
+
+pub returns-in_err-before-clause-fault : goal.returns-in_err-before-clause-fault
+returns-in_err-before-clause-fault g c =
+    let r = err_from_is_err_and c.from_residual.result c.from_residual.ensures.1 in
+    at_exit (λ x. FaultBy g.D.Disk c.args.frames.now c.hold_page.new.frames x) c.from_residual.result r.0
+    c.in_err-before.field-0.0 r.1 r.2 c.in_err-before.ensures.fault

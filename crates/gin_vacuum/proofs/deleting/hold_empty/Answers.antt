@@ -3,9 +3,11 @@ use Rattle.std.proofs.lemmas.Result.{err_from_is_err_and}
 use Rattle.std.proofs.lemmas.Bool.{false≢true}
 use Rattle.buffer_frames.specs.Frames.{Lies}
 use Rattle.gin_place.specs.Causes.{Finds, CannotUse}
+use Rattle.gin_place.specs.Faults.{FaultBy}
 use Rattle.gin_place.specs.declared.error.PlaceError.TheVariants.{BadPage}
 use Rattle.gin_place.proofs.Carrying.{reads_in_turn}
 use Rattle.gin_place.proofs.Causing.{at_exit, finds_now, weaker}
+use Rattle.gin_place.proofs.Faults.{calm_fine, fine_then}
 use Rattle.gin_vacuum.specs.Stepping.{IsCause, IsEmptyPage}
 use Rattle.gin_vacuum.specs.Inner.Deleting.{IsBadAround}
 use Rattle.gin_vacuum.proofs.SweepCauses.{hold_cause}
@@ -43,3 +45,14 @@ returns-then-not-is_empty_leaf-clause-cause g c =
     finds_now g.D.Disk f c.args.pass.now
     (IsCause g.D.Disk (IsBadAround g.D.Disk e) c.release.new.frames (BadPage e.page)) c.requires.pass
     (IsBadAround.leaf refl cannot (c.requires.lawful cannot))
+
+pub returns-then-not-is_empty_leaf-clause-fault : goal.returns-then-not-is_empty_leaf-clause-fault
+returns-then-not-is_empty_leaf-clause-fault g c =
+    fine_then g.D.Disk c.args.frames.now c.hold_page.new.frames c.release.new.frames c.in_ok-leaf.ensures.fine
+    (calm_fine g.D.Disk c.hold_page.new.frames c.release.new.frames c.release.ensures.calm)
+
+pub returns-in_err-leaf-clause-fault : goal.returns-in_err-leaf-clause-fault
+returns-in_err-leaf-clause-fault g c =
+    let r = err_from_is_err_and c.from_residual.result c.from_residual.ensures.1 in
+    at_exit (λ x. FaultBy g.D.Disk c.args.frames.now c.hold_page.new.frames x) c.from_residual.result r.0
+    c.in_err-leaf.field-0.0 r.1 r.2 c.in_err-leaf.ensures.fault

@@ -1,12 +1,16 @@
 use Rattle.std.proofs.Common.{◌<◌, ◌^◌, ◌∙◌, [], ◌∷◌, sym, ap, subst, arith}
 use Rattle.std.specs.Prelude.{Option, IfSome, IfNone}
+use Rattle.std.proofs.lemmas.Result.{err_from_is_err_and}
 use Rattle.page_types.specs.Pages.{IsPage}
 use Rattle.core_state.specs.Allowed.{Sheet, Step}
+use Rattle.buffer_frames.proofs.Exits.{on_refusal}
 use Rattle.gin_place.specs.Causes.{Finds, CannotUse}
+use Rattle.gin_place.specs.Faults.{MetNoFault, FaultBy}
 use Rattle.gin_place.specs.Holding.{ReadsOn}
-use Rattle.gin_place.specs.declared.error.PlaceError.TheVariants.{BadPage}
+use Rattle.gin_place.specs.declared.error.PlaceError.TheVariants.{BadPage, OutOfMemory}
 use Rattle.gin_place.proofs.Carrying.{reads_in_turn, right_on}
-use Rattle.gin_place.proofs.Causing.{finds_now}
+use Rattle.gin_place.proofs.Causing.{at_exit, finds_now}
+use Rattle.gin_place.proofs.Faults.{calm_fine, fine_then, told_then}
 use Rattle.gin_place.proofs.Exits.{on_ok, on_err, if_err}
 use Rattle.gin_vacuum.specs.Freeing.{IsPageOf, IsBadFreed, CannotFree}
 use Rattle.gin_vacuum.specs.Inner.Freeing.{IsChained, IsDropStep, LogsDrop}
@@ -117,3 +121,50 @@ pub returns-in-Err-clause-refused : goal.returns-in-Err-clause-refused
 returns-in-Err-clause-refused g c =
     reads_in_turn g.D.Disk c.args.frames.now c.hold_both.new.frames c.give_back-in-Err.new.frames c.args.pass.now
     c.hold_both.new.pass c.give_back-in-Err.new.pass c.hold_both.ensures.reads c.give_back-in-Err.ensures.reads
+
+pub returns-in_err-both-clause-refused : goal.returns-in_err-both-clause-refused
+returns-in_err-both-clause-refused g c = on_refusal _ c.from_residual.result c.hold_both.ensures.reads
+
+pub returns-in_err-both-clause-cause : goal.returns-in_err-both-clause-cause
+returns-in_err-both-clause-cause g c =
+    let r = err_from_is_err_and c.from_residual.result c.from_residual.ensures.1 in
+    at_exit (λ x. Finds g.D.Disk c.args.frames.now c.args.pass.now (CannotFree g.D.Disk c.hold_both.new.frames x))
+    c.from_residual.result r.0 c.in_err-both.field-0.0 r.1 r.2 c.in_err-both.ensures.cause
+
+pub returns-in_err-both-clause-fault : goal.returns-in_err-both-clause-fault
+returns-in_err-both-clause-fault g c =
+    let r = err_from_is_err_and c.from_residual.result c.from_residual.ensures.1 in
+    at_exit (λ x. FaultBy g.D.Disk c.args.frames.now c.hold_both.new.frames x) c.from_residual.result r.0
+    c.in_err-both.field-0.0 r.1 r.2 c.in_err-both.ensures.fault
+
+pub returns-in-Ok-Some-clause-fine : goal.returns-in-Ok-Some-clause-fine
+returns-in-Ok-Some-clause-fine g c =
+    let f = c.args.frames.now in
+    let l = c.hold_both.new.frames in
+    let h = c.log_both.new.frames in
+    on_ok c.log_both.result (MetNoFault g.D.Disk l h) (MetNoFault g.D.Disk f h)
+    (fine_then g.D.Disk f l h c.in_ok-both.ensures.fine) c.log_both.ensures.fine
+
+pub returns-in-Ok-Some-clause-fault : goal.returns-in-Ok-Some-clause-fault
+returns-in-Ok-Some-clause-fault g c =
+    let f = c.args.frames.now in
+    let l = c.hold_both.new.frames in
+    let h = c.log_both.new.frames in
+    if_err c.log_both.result (λ e. FaultBy g.D.Disk l h e) (λ e. FaultBy g.D.Disk f h e)
+    (λ e. told_then g.D.Disk f l h e c.in_ok-both.ensures.fine) c.log_both.ensures.fault
+
+pub returns-in-Ok-None-clause-fault : goal.returns-in-Ok-None-clause-fault
+returns-in-Ok-None-clause-fault g c =
+    fine_then g.D.Disk c.args.frames.now c.hold_both.new.frames c.give_back.new.frames c.in_ok-both.ensures.fine
+    (calm_fine g.D.Disk c.hold_both.new.frames c.give_back.new.frames c.give_back.ensures.calm)
+
+pub returns-in-Err-clause-cause : goal.returns-in-Err-clause-cause
+returns-in-Err-clause-cause g c =
+    finds_now g.D.Disk c.args.frames.now c.args.pass.now (CannotFree g.D.Disk c.give_back-in-Err.new.frames OutOfMemory)
+    c.requires.pass tt
+
+pub returns-in-Err-clause-fault : goal.returns-in-Err-clause-fault
+returns-in-Err-clause-fault g c =
+    fine_then g.D.Disk c.args.frames.now c.hold_both.new.frames c.give_back-in-Err.new.frames
+    c.in_ok-both.ensures.fine
+    (calm_fine g.D.Disk c.hold_both.new.frames c.give_back-in-Err.new.frames c.give_back-in-Err.ensures.calm)

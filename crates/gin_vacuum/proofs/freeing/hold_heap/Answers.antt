@@ -5,7 +5,9 @@ use Rattle.buffer_frames.specs.Frames.{Lies}
 use Rattle.gin_place.specs.Causes.{Finds, CannotUse}
 use Rattle.gin_place.specs.declared.error.PlaceError.TheVariants.{BadPage}
 use Rattle.gin_place.proofs.Carrying.{reads_in_turn}
+use Rattle.gin_place.specs.Faults.{FaultBy}
 use Rattle.gin_place.proofs.Causing.{at_exit, finds_now}
+use Rattle.gin_place.proofs.Faults.{calm_fine, fine_then}
 use Rattle.gin_vacuum.specs.Causes.{IsHeap}
 use Rattle.gin_vacuum.specs.Freeing.{IsBadFreed, CannotFree}
 use Rattle.gin_vacuum.proofs.FreeCauses.{heap_cause}
@@ -39,3 +41,14 @@ returns-then-not-is_heap-clause-cause g c =
     finds_now g.D.Disk c.args.frames.now c.args.pass.now
     (CannotFree g.D.Disk c.release.new.frames (BadPage c.args.page))
     c.requires.pass (IsBadFreed.of_heap cannot (c.requires.lawful cannot))
+
+pub returns-then-not-is_heap-clause-fault : goal.returns-then-not-is_heap-clause-fault
+returns-then-not-is_heap-clause-fault g c =
+    fine_then g.D.Disk c.args.frames.now c.hold_seen.new.frames c.release.new.frames c.in_ok-heap.ensures.fine
+    (calm_fine g.D.Disk c.hold_seen.new.frames c.release.new.frames c.release.ensures.calm)
+
+pub returns-in_err-heap-clause-fault : goal.returns-in_err-heap-clause-fault
+returns-in_err-heap-clause-fault g c =
+    let r = err_from_is_err_and c.from_residual.result c.from_residual.ensures.1 in
+    at_exit (λ x. FaultBy g.D.Disk c.args.frames.now c.hold_seen.new.frames x) c.from_residual.result r.0
+    c.in_err-heap.field-0.0 r.1 r.2 c.in_err-heap.ensures.fault

@@ -4,7 +4,9 @@ use Rattle.std.proofs.lemmas.Result.{err_from_is_err_and}
 use Rattle.page_types.specs.declared.page.Page.{Page}
 use Rattle.gin_place.specs.Causes.{Finds, CannotUse, CannotHold}
 use Rattle.gin_place.proofs.Carrying.{reads_in_turn}
+use Rattle.gin_place.specs.Faults.{FaultBy}
 use Rattle.gin_place.proofs.Causing.{at_exit, finds_as}
+use Rattle.gin_place.proofs.Faults.{calm_fine, fine_then}
 use Rattle.gin_place.specs.declared.error.PlaceError.TheVariants.{BadPage}
 use Rattle.gin_vacuum.specs.Stepping.{IsCause, IsSpent}
 use Rattle.gin_vacuum.proofs.SweepCauses.{hold_cause, spent}
@@ -71,3 +73,14 @@ returns-then-left-eq0-clause-bad g c = λ n is.
         },
       ),
     )
+
+pub returns-then-left-eq0-clause-fault : goal.returns-then-left-eq0-clause-fault
+returns-then-left-eq0-clause-fault g c =
+    fine_then g.D.Disk c.args.frames.now c.hold_seen.new.frames c.release.new.frames c.in_ok-held.ensures.fine
+    (calm_fine g.D.Disk c.hold_seen.new.frames c.release.new.frames c.release.ensures.calm)
+
+pub returns-in_err-held-clause-fault : goal.returns-in_err-held-clause-fault
+returns-in_err-held-clause-fault g c =
+    let r = err_from_is_err_and c.from_residual.result c.from_residual.ensures.1 in
+    at_exit (λ x. FaultBy g.D.Disk c.args.frames.now c.hold_seen.new.frames x) c.from_residual.result r.0
+    c.in_err-held.field-0.0 r.1 r.2 c.in_err-held.ensures.fault
