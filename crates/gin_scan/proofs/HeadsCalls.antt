@@ -22,7 +22,7 @@ use Rattle.gin_scan.specs.Causes.{CannotRead, CannotStep, HasSlots, IsLawfulRefu
 use Rattle.gin_scan.specs.Reaching.{IsReached}
 use Rattle.gin_scan.specs.Scanning.{IsScan, HasRead, sought_in, stages_left, steps_of, steps_left}
 use Rattle.gin_scan.specs.Seen.{AreSeen}
-use Rattle.gin_scan.specs.Inner.Heads.{TakesDocuments}
+use Rattle.gin_scan.specs.Inner.Heads.{KeepsRest, TakesDocuments}
 use Rattle.gin_scan.specs.Inner.Steps.{MayStep, HasStepped}
 use Rattle.gin_scan.specs.declared.scan_core.ScanCore.{ScanCore}
 use Rattle.gin_scan.specs.declared.stage.Stage.{Stage}
@@ -34,6 +34,14 @@ use Rattle.gin_scan.proofs.PinLaws.{pin_laws}
 use Rattle.gin_scan.proofs.Reached.{heads_reached, reached_still, met_as, long_as}
 use Rattle.gin_scan.proofs.Refused.{never_bad, heap_used}
 use Rattle.gin_scan.proofs.StepsTaken.{stepped_by, own_pin}
+
+-- names and long vectors were added to a scan that has counted heads, and nothing else
+pub rest_read : (s new : ScanCore) (n : ℕ) → KeepsRest (record s { heads_read = n }) new
+    → new ≡ record s { names = new.names; long = new.long; heads_read = new.heads_read }
+rest_read s new n rest =
+    rest
+    ∙ ap (λ (k : ℕ). record s { names = new.names; long = new.long; heads_read = k })
+    (sym (ap (λ (z : ScanCore). z.heads_read) rest))
 
 -- what indexing returned is there
 pub got : {A : Type 0} (xs : List A) (k : ℕ) (x : A) → k < length xs → x ≡ get_or xs k x → slice_get xs k ≡ Some x

@@ -1,8 +1,10 @@
 -- A look that a scan takes.
 use Rattle.std.proofs.Common.{◌≡◌, ℕ, List, [], refl, sym, ap, subst, ◌∙◌, arith}
-use Rattle.std.specs.Prelude.{◌↔◌, Result, Ok, Err, IfErr, Option, Some}
+use Rattle.std.specs.Prelude.{◌↔◌, Result, Ok, Err, IfErr, Option, Some, slice_set}
 use Rattle.disk_trait.specs.declared.device.Disk.{Ghosts as Disk}
 use Rattle.core_state.specs.Allowed.{Sheet}
+use Rattle.snap_pins.specs.Taken.{IsFree}
+use Rattle.snap_pins.specs.declared.Pin.{Pin as PinInUse}
 use Rattle.gin_opclass.specs.Class.{Meaning}
 use Rattle.buffer_frames.specs.Beginnings.{BeginsOn}
 use Rattle.buffer_frames.specs.Frames.{FramesValue, RunsOn, KeepsState, KeepsOthers}
@@ -82,6 +84,20 @@ pin_begins {D} device a b c p q r n none l pinned of k = record {
   keeps = works_then device p q r l.keeps (keeps_work q r k.same.2 k.same.1 k.right.0 k.rises);
   holds = k.holds ∙ l.holds;
   calm = subst (λ (j : JournalValue D). IsCalm device a.journal j) (sym k.journal) l.calm;
+}
+
+-- so it is of the frames before the look
+pub pinned_after : {D : Type 0} (a b c : FramesValue D) (r : Pass) (n : ℕ) → b.pins ≡ a.pins → HasPinned b c r n
+    → HasPinned a c r n
+pinned_after a b c r n same pinned = record {
+  place = pinned.place;
+  free = subst (λ (ps : List (Option PinInUse)). IsFree ps pinned.place) same pinned.free;
+  pins = pinned.pins ∙ ap (λ (ps : List (Option PinInUse)). slice_set ps pinned.place
+      (Some (record { commits = n; length = c.journal.state.records }))) same;
+  pin = pinned.pin;
+  commits = pinned.commits;
+  shown = pinned.shown;
+  seen = pinned.seen;
 }
 
 -- nothing was asked

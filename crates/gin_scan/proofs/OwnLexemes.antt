@@ -53,8 +53,8 @@ pub all_left : (o : Operand) (v : Vector) (entries : List ℕ) → All IsEntry v
 all_left o v entries all is = record { left = v; valid = all; bytes_of = is; same = refl }
 
 -- the first of them
-module _ (o : Operand) (v : Vector) (rest lexeme after : List ℕ) (some : 0 < length rest) (l : lexeme ≡ lexeme_told rest)
-    (a : after ≡ behind_places (behind_lexeme rest)) where
+module _ (o : Operand) (v : Vector) (rest lexeme after : List ℕ) (some : 0 < length rest)
+    (l : lexeme ≡ lexeme_told rest) (a : after ≡ behind_places (behind_lexeme rest)) where
   first_of : (w : Vector) → All IsEntry w → rest ≡ flat_map entry_bytes w → has_lexeme o v ≡ has_lexeme o w
       → (m : Vector) × All IsEntry m × (after ≡ flat_map entry_bytes m)
       × (has_lexeme o v ≡ (names o lexeme || has_lexeme o m))

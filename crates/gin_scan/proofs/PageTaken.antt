@@ -106,7 +106,7 @@ module _ {Q : Type 0} (M : Meaning Q) (q : Q) (R : Log) (P : Pages) (H : History
       (waits_more (M.satisfies q) R pin H one_serial one_item items old.names.items old.long.items t D (long_at i h)
       o.there (λ m. fresh (subst (λ (j : ℕ). In j items) o.item m)) (long_of i h D at o more))))
   taken_by items i h false D old new t fresh at o granted (Takes.found few tells f) =
-      let p : M.satisfies q D.vector = (tells D.vector (short_encodes P h D.vector o.whole few)).0 refl in
+      let p : M.satisfies q D.vector = (tells.has D.vector (short_encodes P h D.vector o.whole few)).0 refl in
       subst (λ ls. Taken (items ++ i ∷ []) new.names.items ls.items) (sym f.1)
       (subst (λ (ns : List Name). Taken (items ++ i ∷ []) ns old.long.items)
       (ap (λ (n : Name). old.names.items ++ n ∷ []) o.name ∙ sym f.0)
@@ -121,7 +121,7 @@ module _ {Q : Type 0} (M : Meaning Q) (q : Q) (R : Log) (P : Pages) (H : History
     where
       not_so : M.satisfies q D.vector → ⊥
       not_so p =
-          let f : false ≡ true = (tells D.vector (short_encodes P h D.vector o.whole few)).1 p in
+          let f : false ≡ true = (tells.has D.vector (short_encodes P h D.vector o.whole few)).1 p in
           let z : ⊥ = cc in z
 
   -- one kept item more on the page

@@ -111,4 +111,4 @@ module _ (R : Log) (pin : Pin) (legal : IsLegal R) (keeps : Keeps R pin) (H : Hi
         → IsReadUp s at page left → IsTrue t.answer ↔ P d.vector
     answered P s' at t same up =
         let all = read_up at (t.is_there ∙ ap Some same) up in
-        t.told (all.1 ∙ ap (λ (v : LongVector). v.size) (sym same)) d.vector all.0
+        (t.told (all.1 ∙ ap (λ (v : LongVector). v.size) (sym same))).has d.vector all.0

@@ -1,5 +1,6 @@
 -- What a step of a scan returns.
-use Rattle.std.proofs.Common.{◌≡◌, ◌≢◌, refl, sym, subst, ◌∙◌}
+use Rattle.std.proofs.Common.{◌≡◌, ◌≢◌, Bool, false, IsTrue, refl, sym, subst, ◌∙◌}
+use Rattle.std.proofs.lemmas.Bool.{false≢true}
 use Rattle.std.specs.Prelude.{Result, Ok, Err, OnOk}
 use Rattle.disk_trait.specs.declared.device.Disk.{Ghosts as Disk}
 use Rattle.gin_opclass.specs.Class.{Meaning}
@@ -14,6 +15,10 @@ use Rattle.gin_scan.specs.Inner.Steps.{HasStepped, IsStepOf}
 use Rattle.gin_scan.specs.declared.scan_core.ScanCore.{ScanCore}
 use Rattle.gin_scan.proofs.ReadCalls.{ok_cause, err_cause, exit_cause}
 use Rattle.gin_scan.proofs.Refused.{at_exit}
+
+-- what is tested is not so
+pub no_true : (b : Bool) → b ≡ false → IsTrue b → ⊥
+no_true b off is = false≢true (sym off ∙ is)
 
 module _ {D Q : Type 0} (device : Disk D) (M : Meaning Q) (q : Q) (f : FramesValue D) (pass : Pass) (s : ScanCore)
     (f' : FramesValue D) (pass' : Pass) (s' : ScanCore) where

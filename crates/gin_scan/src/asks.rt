@@ -14,7 +14,7 @@ use page_types::{HeadRef, MOST_SLOTS, Page};
 use std::alloc::{AllocError, Global};
 
 /// How far pages go.
-#[derive(Clone, Copy, Debug)]
+#[derive(Clone, Copy)]
 pub(crate) struct Extent;
 
 impl Ask<u32> for Extent {
@@ -44,7 +44,9 @@ pub(crate) fn sees(state: &State, head: HeadRef<'_>, commits: u32) -> bool
     ensures { IsTrue result ↔ Sees (fate_of state.now.value) commits (head_shown head.entry) }
 {
     let fields = head.fields;
-    is_within(state, fields.inserted_by, commits) && !is_within(state, fields.deleted_by, commits)
+    let inserted = is_within(state, fields.inserted_by, commits);
+    let deleted = is_within(state, fields.deleted_by, commits);
+    inserted && !deleted
 }
 
 /// The slot of an item on its heap page.

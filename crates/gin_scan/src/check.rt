@@ -1,5 +1,7 @@
 // Whether a vector satisfies a query, by the work of its judge.
-ghost use Rattle.std.specs.Prelude.{◌≡◌};
+ghost use Rattle.std.specs.Prelude.{◌≡◌, ◌↔◌, IsTrue};
+ghost use Rattle.ts_base.specs.Encoding.{IsEncoding};
+ghost use Rattle.ts_base.specs.Vectors.{Vector};
 ghost use Rattle.ts_match.specs.Meaning.{Holds};
 ghost use Rattle.ts_match.specs.Plan.{plan_of};
 ghost use Rattle.gin_scan.specs.Inner.Heads.{TellsOf};
@@ -14,7 +16,7 @@ use ts_vector::{VectorBytes, bad_bytes_are_no_encoding};
 /// Whether a vector satisfies a query whose meaning W names, by the work that a judge of such queries
 /// uses.
 pub trait Check<Q, W: Meaning<Q>, J: Judge<Q, W>> {
-    /// Whether the vector that these bytes encode satisfies the query. It takes no memory.
+    /// Whether these bytes encode a vector that satisfies the query. It takes no memory.
     fn check(&self, query: &Q, work: &mut W, bytes: &[u8]) -> bool
         requires serves { J.serves work.old query.now }
         ensures tells { TellsOf (W.satisfies query.now) bytes.now result }
@@ -24,6 +26,15 @@ pub trait Check<Q, W: Meaning<Q>, J: Judge<Q, W>> {
 /// The check of text queries.
 #[derive(Clone, Copy, Debug, Default)]
 pub struct TextCheck;
+
+/// Whether these bytes encode a vector. They are read where they lie.
+fn encode_vector(bytes: &[u8]) -> bool
+    ensures { IsTrue result ↔ ((v : Vector) × IsEncoding bytes.now v) }
+{
+    bad_bytes_are_no_encoding();
+    let vector = VectorBytes::new(bytes);
+    vector.is_ok()
+}
 
 /// Whether these bytes encode a vector that satisfies the query. Bytes that encode none do not.
 fn matches_bytes(query: &TsQuery, work: &mut MatchWork, bytes: &[u8]) -> bool
@@ -42,7 +53,7 @@ fn matches_bytes(query: &TsQuery, work: &mut MatchWork, bytes: &[u8]) -> bool
 impl Check<TsQuery, MatchWork, TextJudge> for TextCheck {
     fn check(&self, query: &TsQuery, work: &mut MatchWork, bytes: &[u8]) -> bool {
         match judge_own(query, work, bytes) {
-            Tri::True => true,
+            Tri::True => encode_vector(bytes),
             Tri::False => false,
             Tri::Maybe => matches_bytes(query, work, bytes),
         }

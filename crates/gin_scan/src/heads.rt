@@ -1,6 +1,6 @@
 // What a scan reads of heap pages.
 ghost use Rattle.std.specs.Prelude.{◌≡◌, ◌≢◌, ◌↔◌, ◌⊎◌, ℕ, ◌+◌, ◌<◌, ◌≤◌, Bool, List, Option, Some, [], ◌∷◌};
-ghost use Rattle.std.specs.Prelude.{length, slice_range, IsTrue, IfErr, OnOk};
+ghost use Rattle.std.specs.Prelude.{◌++◌, length, slice_range, IsTrue, IfErr, OnOk};
 ghost use Rattle.std.specs.List.{slice_get};
 ghost use Rattle.page_types.specs.Parts.{head_shown};
 ghost use Rattle.core_state.specs.Documents as documents;
@@ -55,6 +55,15 @@ impl ScanCore {
     ghost use Rattle.gin_scan.specs.Inner.Heads.{TakesDocument, TakesIfSeen, TakesDocuments, KeepsRest};
     ghost use Rattle.gin_scan.specs.declared.stage.Stage.TheVariants as stages;
 
+    /// Adds a name to those that were found.
+    pub(crate) fn add_name(&mut self, name: Name) -> Result<(), AllocError>
+        ensures added { OnOk result (self.new.names.items ≡ self.old.names.items ++ name ∷ []) }
+        ensures rest { self.new ≡ record self.old { names = self.new.names } }
+    {
+        self.names.push(name)?;
+        Ok(())
+    }
+
     /// Takes the document of a head that the snapshot sees, which satisfies the query for sure or not: its
     /// name if it satisfies the query, or where its vector is.
     fn take_document<Q, W: Meaning<Q>, J: Judge<Q, W>, M: Check<Q, W, J>>(
@@ -78,8 +87,7 @@ impl ScanCore {
             serial: found.fields.serial,
         };
         if sure {
-            self.names.push(name)?;
-            return Ok(());
+            return self.add_name(name);
         }
         if found.fields.bytes > MOST_SHORT_BYTES {
             self.long.push(LongVector {
@@ -92,8 +100,7 @@ impl ScanCore {
         if !check.check(query, work, found.vector) {
             return Ok(());
         }
-        self.names.push(name)?;
-        Ok(())
+        self.add_name(name)
     }
 
     /// Takes the document of a kept item, if the snapshot sees its head on this heap page.

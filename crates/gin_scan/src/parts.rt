@@ -159,8 +159,7 @@ impl ScanCore {
         if !check.check(query, work, self.bytes.as_slice()) {
             return Ok(());
         }
-        self.names.push(long.name)?;
-        Ok(())
+        self.add_name(long.name)
     }
 
     /// Matches the vector that waits under this number, of which all parts were read.

@@ -24,7 +24,7 @@ use page_types::{Name, PAGE_LIMIT};
 use std::alloc::Global;
 
 /// A scan for the keys of a query.
-#[derive(Debug, Drop)]
+#[derive(Drop)]
 pub struct ScanCore {
     // the keys of the query
     pub(crate) keys: QueryKeys,
@@ -280,7 +280,8 @@ impl ScanCore {
         ensures is_step { IsStepOf D.Disk (meaning W.asked W.all W.satisfies W.judged) query.now
             frames.old pass.old self.old frames.new pass.new self.new result }
     {
-        match self.stage {
+        let stage = self.stage;
+        match stage {
             Stage::Meta => self.read_meta(frames, pass, query, work),
             Stage::Pending { page, left } => {
                 self.go_on_list(frames, pass, class, query, work, page, left)

@@ -5,7 +5,7 @@ ghost use Rattle.gin_scan.specs.Inner.Ways.{stage_with};
 use page_types::Name;
 
 /// What a scan reads next.
-#[derive(Clone, Copy, Debug)]
+#[derive(Clone, Copy)]
 pub(crate) enum Stage {
     /// The metapage.
     Meta,
@@ -87,7 +87,7 @@ impl Stage {
 }
 
 /// A document of the snapshot whose vector is on overflow pages, and is still to be matched.
-#[derive(Clone, Copy, Debug)]
+#[derive(Clone, Copy)]
 pub(crate) struct LongVector {
     /// The document's name.
     pub(crate) name: Name,

@@ -20,9 +20,11 @@ name_at item h = record { page = page_of item; slot = slot_of item; serial = h.s
 abbrev pub long_at : ℕ → Head → LongVector
 long_at item h = record { name = name_at item h; first = h.overflow; size = h.bytes }
 
--- the vector that these bytes encode, if they encode one, has the property, or it hasn't
-abbrev pub TellsOf : (Vector → Type 0) → List ℕ → Bool → Type 0
-TellsOf P bytes b = (v : Vector) → IsEncoding bytes v → IsTrue b ↔ P v
+-- The vector that these bytes encode has the property, or it hasn't. Of bytes that encode none it is never said that
+-- they have it.
+pub record TellsOf (P : Vector → Type 0) (bytes : List ℕ) (b : Bool) : Type 0 where
+  pub has : (v : Vector) → IsEncoding bytes v → IsTrue b ↔ P v
+  pub encodes : IsTrue b → (v : Vector) × IsEncoding bytes v
 
 -- the scan with one name more, or one long vector more that waits
 abbrev pub with_name : ScanCore → ScanCore → Name → Type 0

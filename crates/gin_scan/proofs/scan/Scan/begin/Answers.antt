@@ -1,14 +1,78 @@
 -- No memory for the keys, or for the work: no call was made yet. Else the scan has begun for any query.
+use Rattle.std.proofs.Common.{refl, sym, subst, ◌∙◌}
+use Rattle.std.proofs.lemmas.Result.{err_from_is_err_and}
+use Rattle.gin_scan.specs.Causes.{CannotBegin}
 use Rattle.gin_scan.proofs.ListCalls.{still_begins}
 use Rattle.gin_scan.proofs.scan.Scan.begin.Goals as goal
 
-pub returns-in_err-keys-clause-reads : goal.returns-in_err-keys-clause-reads
-returns-in_err-keys-clause-reads g c =
-    still_begins g.D.Disk c.args.frames.now c.args.pass.now c.requires.pass c.requires.held
+pub returns-in_err-keys : goal.returns-in_err-keys
+returns-in_err-keys g c =
+    let p = err_from_is_err_and c.from_residual.result c.from_residual.ensures.1 in
+    rw p.1 (record {
+      scanning = tt;
+      query = tt;
+      walk = tt;
+      reached = tt;
+      pinned = tt;
+      took = tt;
+      counted = tt;
+      reads = still_begins g.D.Disk c.args.frames.now c.args.pass.now c.requires.pass c.requires.held;
+      unpinned = c.requires.none;
+      cause = subst (CannotBegin c.args.frames.now) (sym p.2) tt;
+    })
 
-pub returns-in_err-work-clause-reads : goal.returns-in_err-work-clause-reads
-returns-in_err-work-clause-reads g c =
-    still_begins g.D.Disk c.args.frames.now c.args.pass.now c.requires.pass c.requires.held
+pub returns-in_err-work : goal.returns-in_err-work
+returns-in_err-work g c =
+    let p = err_from_is_err_and c.from_residual-in_err-work.result c.from_residual-in_err-work.ensures.1 in
+    rw p.1 (record {
+      scanning = tt;
+      query = tt;
+      walk = tt;
+      reached = tt;
+      pinned = tt;
+      took = tt;
+      counted = tt;
+      reads = still_begins g.D.Disk c.args.frames.now c.args.pass.now c.requires.pass c.requires.held;
+      unpinned = c.requires.none;
+      cause = subst (CannotBegin c.args.frames.now) (sym p.2) tt;
+    })
 
-pub returns-clause-reached : goal.returns-clause-reached
-returns-clause-reached g c = c.in_ok-core.ensures.reached c.args.query.now
+pub returns-in_err-core : goal.returns-in_err-core
+returns-in_err-core g c =
+    let p = err_from_is_err_and c.from_residual-in_err-core.result c.from_residual-in_err-core.ensures.1 in
+    let e = c.in_err-core.ensures in
+    rw p.1 (record {
+      scanning = tt;
+      query = tt;
+      walk = tt;
+      reached = tt;
+      pinned = tt;
+      took = tt;
+      counted = tt;
+      reads = c.begin.ensures.reads;
+      unpinned = e.unpinned;
+      cause = subst (CannotBegin c.args.frames.now) (sym p.2) e.cause;
+    })
+
+pub returns : goal.returns
+returns g c =
+    let q = c.args.query.now in
+    let e = c.in_ok-core.ensures in record {
+      scanning = e.scanning;
+      query = record {
+        query = refl;
+        asks = record {
+          asked = e.asks.0 ∙ c.in_ok-keys.ensures.keys;
+          all = e.asks.1 ∙ c.in_ok-keys.ensures.all;
+        };
+        work = c.in_ok-work.ensures;
+      };
+      walk = e.walk q;
+      reached = e.reached q;
+      pinned = e.pinned;
+      took = e.took;
+      counted = e.counted;
+      reads = c.begin.ensures.reads;
+      unpinned = tt;
+      cause = tt;
+    }

@@ -10,71 +10,73 @@ use Rattle.gin_opclass.specs.Class.{meaning}
 use Rattle.gin_scan.specs.Calls.{BeginsReading}
 use Rattle.gin_scan.specs.Causes.{CannotBegin}
 use Rattle.gin_scan.proofs.BegunScans.{begun, begun_with, begun_pass, begun_reached, begun_asks, begun_counted}
-use Rattle.gin_scan.proofs.ListCalls.{look_begins, pin_begins}
-use Rattle.gin_scan.proofs.Refused.{at_exit, err_or_not}
+use Rattle.gin_scan.proofs.ListCalls.{look_begins, pin_begins, pinned_after}
 use Rattle.gin_scan.proofs.scan_core.ScanCore.begin.Goals as goal
 
-pub returns-in_err-scan-clause-reads : goal.returns-in_err-scan-clause-reads
-returns-in_err-scan-clause-reads g c =
-    look_begins g.D.Disk c.args.frames.now c.unread.new.frames c.args.pass.now c.unread.new.pass c.requires.held
-    c.unread.ensures.looks
+pub returns-in_err-scan : goal.returns-in_err-scan
+returns-in_err-scan g c =
+    let p = err_from_is_err_and c.from_residual.result c.from_residual.ensures.1 in
+    let l = c.unread.ensures.looks in
+    rw p.1 (record {
+      scanning = tt;
+      asks = tt;
+      walk = tt;
+      reached = tt;
+      pinned = tt;
+      took = tt;
+      counted = tt;
+      reads = look_begins g.D.Disk c.args.frames.now c.unread.new.frames c.args.pass.now c.unread.new.pass
+          c.requires.held l;
+      unpinned = l.pin ∙ c.requires.none;
+      cause = subst (CannotBegin c.args.frames.now) (sym p.2) c.in_err-scan.ensures.cause;
+    })
 
-pub returns-in_err-scan-clause-unpinned : goal.returns-in_err-scan-clause-unpinned
-returns-in_err-scan-clause-unpinned g c =
-    err_or_not _ c.from_residual.result (c.unread.ensures.looks.pin ∙ c.requires.none)
-
-pub returns-in_err-snapshot-clause-reads : goal.returns-in_err-snapshot-clause-reads
-returns-in_err-snapshot-clause-reads g c =
-    let same = c.in_err-snapshot.ensures.refused in
-    subst₂ (λ (f : FramesValue g.row.D.Denot) (p : Pass). BeginsReading g.D.Disk c.args.frames.now c.args.pass.now f p)
-    (sym same.0) (sym same.1)
-    (look_begins g.D.Disk c.args.frames.now c.unread.new.frames c.args.pass.now c.unread.new.pass c.requires.held
-    c.unread.ensures.looks)
-
-pub returns-in_err-snapshot-clause-cause : goal.returns-in_err-snapshot-clause-cause
-returns-in_err-snapshot-clause-cause g c =
+pub returns-in_err-snapshot : goal.returns-in_err-snapshot
+returns-in_err-snapshot g c =
     let r = c.from_residual-in_err-snapshot in
     let p = err_from_is_err_and r.result r.ensures.1 in
+    let same = c.in_err-snapshot.ensures.refused in
+    let l = c.unread.ensures.looks in
     let d = c.in_err-snapshot.ensures.error in
     let is : c.pin.result ≡ Err (Down d.0) = c.in_err-snapshot.was ∙ ap Err d.1 in
-    at_exit (CannotBegin c.args.frames.now) r.result p.0 c.in_err-snapshot.field-0.0 p.1 p.2
-    (subst (CannotBegin c.args.frames.now) (sym d.1)
-    (sym c.unread.ensures.looks.calm.down ∙ (c.pin.ensures.is_down d.0).0 is))
+    rw p.1 (record {
+      scanning = tt;
+      asks = tt;
+      walk = tt;
+      reached = tt;
+      pinned = tt;
+      took = tt;
+      counted = tt;
+      reads = subst₂ (λ (f : FramesValue g.row.D.Denot) (q : Pass).
+          BeginsReading g.D.Disk c.args.frames.now c.args.pass.now f q) (sym same.0) (sym same.1)
+          (look_begins g.D.Disk c.args.frames.now c.unread.new.frames c.args.pass.now c.unread.new.pass
+          c.requires.held l);
+      unpinned = ap (λ (q : Pass). q.pin) same.1 ∙ l.pin ∙ c.requires.none;
+      cause = subst (CannotBegin c.args.frames.now) (sym (p.2 ∙ d.1))
+          (sym l.calm.down ∙ (c.pin.ensures.is_down d.0).0 is);
+    })
 
-pub returns-clause-scanning : goal.returns-clause-scanning
-returns-clause-scanning g c =
-    let b = begun_with c.unread.new.frames c.pin.new.self c.args.keys c.in_ok-scan.scan c.in_ok-snapshot.snapshot true
-    c.pin.ensures.keeps.journal c.in_ok-scan.ensures.begun in
-    begun_pass c.pin.new.self c.args.keys _ b c.pin.new.pass
-    (record { commits = c.in_ok-snapshot.snapshot; length = c.pin.new.self.journal.state.records }) c.pin.ensures.pass
-    (c.pin.ensures.keeps.same.0 ∙ c.unread.ensures.looks.held ∙ c.requires.held)
-    (ap pin_in c.in_ok-snapshot.ensures.pinned.pin) refl
-
-pub returns-clause-asks : goal.returns-clause-asks
-returns-clause-asks g c = begun_asks c.unread.new.frames c.args.keys c.in_ok-scan.scan c.in_ok-scan.ensures.begun
-
-pub returns-clause-walk : goal.returns-clause-walk
-returns-clause-walk g c = λ q.
-    let b = begun_with c.unread.new.frames c.pin.new.self c.args.keys c.in_ok-scan.scan c.in_ok-snapshot.snapshot true
-    c.pin.ensures.keeps.journal c.in_ok-scan.ensures.begun in
-    begun c.pin.new.self c.args.keys _ b g.D.Disk _ q c.pin.new.pass c.pin.ensures.pass
-
-pub returns-clause-reached : goal.returns-clause-reached
-returns-clause-reached g c = λ q.
-    let b = begun_with c.unread.new.frames c.pin.new.self c.args.keys c.in_ok-scan.scan c.in_ok-snapshot.snapshot true
-    c.pin.ensures.keeps.journal c.in_ok-scan.ensures.begun in
-    begun_reached c.pin.new.self c.args.keys _ b
-    (meaning g.W.Meaning.asked g.W.Meaning.all g.W.Meaning.satisfies g.W.Meaning.judged) q
-
-pub returns-clause-counted : goal.returns-clause-counted
-returns-clause-counted g c =
-    let b = begun_with c.unread.new.frames c.pin.new.self c.args.keys c.in_ok-scan.scan c.in_ok-snapshot.snapshot true
-    c.pin.ensures.keeps.journal c.in_ok-scan.ensures.begun in
-    begun_counted c.pin.new.self c.args.keys _ b c.args.pass.now.holds c.pin.new.pass.holds
-    (c.pin.ensures.keeps.holds ∙ c.unread.ensures.looks.holds)
-
-pub returns-clause-reads : goal.returns-clause-reads
-returns-clause-reads g c =
-    pin_begins g.D.Disk c.args.frames.now c.unread.new.frames c.pin.new.self c.args.pass.now c.unread.new.pass
-    c.pin.new.pass c.in_ok-snapshot.snapshot c.requires.held c.unread.ensures.looks c.in_ok-snapshot.ensures.pinned
-    c.pin.ensures.pass c.pin.ensures.keeps
+pub returns : goal.returns
+returns g c =
+    let l = c.unread.ensures.looks in
+    let k = c.pin.ensures.keeps in
+    let n = c.in_ok-snapshot.snapshot in
+    let f = c.pin.new.self in
+    let pinned = c.in_ok-snapshot.ensures.pinned in
+    let b = begun_with c.unread.new.frames f c.args.keys c.in_ok-scan.scan n true k.journal
+    c.in_ok-scan.ensures.begun in
+    record {
+      scanning = begun_pass f c.args.keys _ b c.pin.new.pass (record { commits = n; length = f.journal.state.records })
+          c.pin.ensures.pass (k.same.0 ∙ l.held ∙ c.requires.held) (ap pin_in pinned.pin) refl;
+      asks = begun_asks c.unread.new.frames c.args.keys c.in_ok-scan.scan c.in_ok-scan.ensures.begun;
+      walk = λ q. begun f c.args.keys _ b g.D.Disk _ q c.pin.new.pass c.pin.ensures.pass;
+      reached = λ q. begun_reached f c.args.keys _ b
+          (meaning g.W.Meaning.asked g.W.Meaning.all g.W.Meaning.satisfies g.W.Meaning.judged) q;
+      pinned = pinned_after c.args.frames.now c.unread.new.frames f c.pin.new.pass n l.pins pinned;
+      took = refl;
+      counted = begun_counted f c.args.keys _ b c.args.pass.now.holds c.pin.new.pass.holds (k.holds ∙ l.holds);
+      reads = pin_begins g.D.Disk c.args.frames.now c.unread.new.frames f c.args.pass.now c.unread.new.pass
+          c.pin.new.pass n c.requires.held l pinned c.pin.ensures.pass k;
+      unpinned = tt;
+      cause = tt;
+    }

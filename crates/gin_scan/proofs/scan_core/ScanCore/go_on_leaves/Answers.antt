@@ -34,3 +34,9 @@ go_further_on_way-requires-clause-stage g c = (
     subst (λ (n : ℕ). c.args.self.now.stage ≡ stage.Leaf c.args.key c.args.page n) c.if-left-eq0.true c.requires.stage,
   ),
 )
+
+pub returns-then-left-eq0 : goal.returns-then-left-eq0
+returns-then-left-eq0 g c = record { is_step = c.go_further_on_way.ensures.is_step }
+
+pub returns : goal.returns
+returns g c = record { is_step = c.read_leaf.ensures.is_step }

@@ -28,3 +28,9 @@ pub go_further_in_tree-requires-clause-stage : goal.go_further_in_tree-requires-
 go_further_in_tree-requires-clause-stage g c =
     subst (λ (n : ℕ). c.args.self.now.stage ≡ stage.Posting c.args.key c.args.at c.args.page n c.args.then c.args.read)
     c.if-left-eq0.true c.requires.stage
+
+pub returns-then-left-eq0 : goal.returns-then-left-eq0
+returns-then-left-eq0 g c = record { is_step = c.go_further_in_tree.ensures.is_step }
+
+pub returns : goal.returns
+returns g c = record { is_step = c.read_posting.ensures.is_step }

@@ -21,8 +21,8 @@ pub release-requires-clause-holding : goal.release-requires-clause-holding
 release-requires-clause-holding g c =
     ([], c.read_page-read.ensures.looks.holding (c.in_ok-held.held ∷ []) c.in_ok-held.ensures.holding)
 
-pub returns-in_err-held-clause-is_step : goal.returns-in_err-held-clause-is_step
-returns-in_err-held-clause-is_step g c =
+pub returns-in_err-held : goal.returns-in_err-held
+returns-in_err-held g c =
     let p = err_from_is_err_and c.from_residual.result c.from_residual.ensures.1 in
     let f = c.args.frames.now in
     let s = c.args.self.now in
@@ -30,16 +30,18 @@ returns-in_err-held-clause-is_step g c =
     let n = c.page_of-number.result in
     let k = c.in_err-held.ensures in
     let why = weaker_read f HasSlots n x k.cause in
-    let there = got s.kept.items c.args.at c.index.result.now c.requires.more c.index.ensures in
-    refused g.D.Disk _ c.args.query.now f c.args.pass.now s c.hold_page.new.frames c.hold_page.new.pass s
-    c.hold_page.result c.from_residual.result x p.0 c.in_err-held.was p.1 p.2 refl k.refused
-    c.hold_page.ensures.fault
-    (heads_cause f s c.args.at n c.index.result.now x c.requires.stage there c.page_of-number.ensures why)
-    (heads_lawful g.D.Disk _ g.met.J.Judge.sound c.args.query.now f c.args.pass.now s c.requires.may c.args.at
-    c.requires.stage n c.index.result.now x there c.page_of-number.ensures why)
+    let there = got s.kept.items c.args.at c.index.result.now c.requires.more c.index.ensures in record {
+      serves = c.requires.serves;
+      is_step = refused g.D.Disk _ c.args.query.now f c.args.pass.now s c.hold_page.new.frames c.hold_page.new.pass s
+          c.hold_page.result c.from_residual.result x p.0 c.in_err-held.was p.1 p.2 refl k.refused
+          c.hold_page.ensures.fault
+          (heads_cause f s c.args.at n c.index.result.now x c.requires.stage there c.page_of-number.ensures why)
+          (heads_lawful g.D.Disk _ g.met.J.Judge.sound c.args.query.now f c.args.pass.now s c.requires.may c.args.at
+          c.requires.stage n c.index.result.now x there c.page_of-number.ensures why);
+    }
 
-pub returns-in_err-read-clause-is_step : goal.returns-in_err-read-clause-is_step
-returns-in_err-read-clause-is_step g c =
+pub returns-in_err-read : goal.returns-in_err-read
+returns-in_err-read g c =
     let p = err_from_is_err_and c.from_residual-in_err-read.result c.from_residual-in_err-read.ensures.1 in
     let h = c.hold_page.ensures in
     let k = c.in_ok-held.ensures in
@@ -59,17 +61,19 @@ returns-in_err-read-clause-is_step g c =
     c.args.pass.now c.hold_page.new.pass c.read_page-read.new.pass c.release.new.pass c.in_ok-held.held n k.number
     h.adds
     h.keeps h.pin h.pins k.others k.lies l e.pass (e.holding [] (l.holding (c.in_ok-held.held ∷ []) k.holding)) e.added
-    e.rises e.same e.right.0 e.runs_on e.state e.lies e.others e.calm e.begins e.pins h.holds e.holds in
-    fails g.D.Disk _ c.args.query.now f c.args.pass.now s c.release.new.self c.release.new.pass _
-    c.from_residual-in_err-read.result x p.0 p.1 p.2
-    (page_calm c.hold_page.new.frames HasSlots n c.page-page.result.now x bad) c.read_page-read.ensures.took
-    reads (calm_then g.D.Disk _ _ _ held (calm_then g.D.Disk _ _ _ l.calm e.calm))
-    (heads_cause f s c.args.at n c.index.result.now x c.requires.stage there c.page_of-number.ensures why)
-    (heads_lawful g.D.Disk _ g.met.J.Judge.sound c.args.query.now f c.args.pass.now s c.requires.may c.args.at
-    c.requires.stage n c.index.result.now x there c.page_of-number.ensures why)
+    e.rises e.same e.right.0 e.runs_on e.state e.lies e.others e.calm e.begins e.pins h.holds e.holds in record {
+      serves = c.read_page-read.ensures.serves;
+      is_step = fails g.D.Disk _ c.args.query.now f c.args.pass.now s c.release.new.self c.release.new.pass _
+          c.from_residual-in_err-read.result x p.0 p.1 p.2
+          (page_calm c.hold_page.new.frames HasSlots n c.page-page.result.now x bad) c.read_page-read.ensures.took
+          reads (calm_then g.D.Disk _ _ _ held (calm_then g.D.Disk _ _ _ l.calm e.calm))
+          (heads_cause f s c.args.at n c.index.result.now x c.requires.stage there c.page_of-number.ensures why)
+          (heads_lawful g.D.Disk _ g.met.J.Judge.sound c.args.query.now f c.args.pass.now s c.requires.may c.args.at
+          c.requires.stage n c.index.result.now x there c.page_of-number.ensures why);
+    }
 
-pub returns-clause-is_step : goal.returns-clause-is_step
-returns-clause-is_step g c =
+pub returns : goal.returns
+returns g c =
     let h = c.hold_page.ensures in
     let k = c.in_ok-held.ensures in
     let l = c.read_page-read.ensures.looks in
@@ -108,28 +112,30 @@ returns-clause-is_step g c =
     (e.holds ∙ l.holds ∙ k.one))
     (heads_counted s new c.args.at c.end_of_page-end.result c.args.pass.now.holds
     c.release.new.pass.holds c.requires.stage (ap (λ (z : ScanCore). z.extent) w.rest) (ap most_on_ways w.rest) less
-    (omega (arith, h.holds, l.holds, e.holds))) in
-    goes g.D.Disk _ c.args.query.now a c.args.pass.now s c.release.new.self c.release.new.pass new _
-    c.read_page-read.ensures.took
-    (heads_stepped g.D.Disk _ g.met.J.Judge.sound c.args.query.now a c.args.pass.now s c.requires.may
-    c.args.at c.requires.stage c.read_page-read.new.frames c.release.new.self c.release.new.pass
-    read new c.end_of_page-end.result n c.one_more-self.result c.page-page.result.now (record {
-      first = c.index.result.now;
-      there = there;
-      first_here = sym c.page_of-number.ensures;
-      next = λ k at. q.next k
-          (subst (λ (ks : List (ℕ × Bool)). slice_get ks c.end_of_page-end.result ≡ Some k) (sym same) at);
-      ordered = less;
-      within = subst (λ (ks : List (ℕ × Bool)). c.end_of_page-end.result ≤ length ks) same q.within;
-      here = λ j item sure low high at. q.here j item sure low high
-          (subst (λ (ks : List (ℕ × Bool)). slice_get ks j ≡ Some (item, sure)) (sym same) at);
-      is_page = c.page-page.ensures.is_page;
-      lies = lies;
-      state = state_same g.D.Disk c.hold_page.new.frames c.read_page-read.new.frames l.adds
-          ∙ state_same g.D.Disk a c.hold_page.new.frames h.adds;
-      seen = w.taken.0;
-      are_seen = w.taken.1;
-      takes = w.taken.2;
-      counted = w.counted;
-      rest = w.rest;
-    }) reads one refl counted) reads (calm_then g.D.Disk _ _ _ held (calm_then g.D.Disk _ _ _ l.calm e.calm))
+    (omega (arith, h.holds, l.holds, e.holds))) in record {
+      serves = c.read_page-read.ensures.serves;
+      is_step = goes g.D.Disk _ c.args.query.now a c.args.pass.now s c.release.new.self c.release.new.pass new _
+          c.read_page-read.ensures.took
+          (heads_stepped g.D.Disk _ g.met.J.Judge.sound c.args.query.now a c.args.pass.now s c.requires.may
+          c.args.at c.requires.stage c.read_page-read.new.frames c.release.new.self c.release.new.pass
+          read new c.end_of_page-end.result n c.one_more-self.result c.page-page.result.now (record {
+            first = c.index.result.now;
+            there = there;
+            first_here = sym c.page_of-number.ensures;
+            next = λ k at. q.next k
+                (subst (λ (ks : List (ℕ × Bool)). slice_get ks c.end_of_page-end.result ≡ Some k) (sym same) at);
+            ordered = less;
+            within = subst (λ (ks : List (ℕ × Bool)). c.end_of_page-end.result ≤ length ks) same q.within;
+            here = λ j item sure low high at. q.here j item sure low high
+                (subst (λ (ks : List (ℕ × Bool)). slice_get ks j ≡ Some (item, sure)) (sym same) at);
+            is_page = c.page-page.ensures.is_page;
+            lies = lies;
+            state = state_same g.D.Disk c.hold_page.new.frames c.read_page-read.new.frames l.adds
+                ∙ state_same g.D.Disk a c.hold_page.new.frames h.adds;
+            seen = w.taken.0;
+            are_seen = w.taken.1;
+            takes = w.taken.2;
+            counted = w.counted;
+            rest = w.rest;
+          }) reads one refl counted) reads (calm_then g.D.Disk _ _ _ held (calm_then g.D.Disk _ _ _ l.calm e.calm));
+    }
