@@ -29,7 +29,7 @@ use Rattle.core_state.proofs.Histories.{head_one}
 use Rattle.core_state.proofs.Steps.Pending.{add_row_may}
 use Rattle.pending_list.specs.Packing.{row_of}
 use Rattle.pending_list.specs.Adding.{IsPendingPage, with_row}
-use Rattle.buffer_frames.specs.Drawing.{HasEncoding, front_of, made_sheets, record_of}
+use Rattle.buffer_frames.specs.Drawing.{HasEncoding, record_of}
 use Rattle.buffer_frames.specs.Frames.{Stands, Behind}
 use Rattle.buffer_frames.specs.Passes.{IsPassOf, IsHolding, view_of}
 use Rattle.buffer_frames.specs.declared.pass.Pass.{Pass}

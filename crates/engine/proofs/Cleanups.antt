@@ -1,5 +1,5 @@
 -- How frames and stores go on in a cleanup.
-use Rattle.std.proofs.Common.{◌≡◌, ◌⊎◌, ℕ, Bool, List, [], ◌∷◌, ◌++◌, length, refl, sym, ap, ap₂, subst, ◌∙◌}
+use Rattle.std.proofs.Common.{◌≡◌, ◌⊎◌, ℕ, Bool, List, [], ◌∷◌, ◌++◌, length, refl, sym, ap, subst, ◌∙◌}
 use Rattle.std.proofs.Common.{inl, inr, arith, map, append-nil, length-append}
 use Rattle.std.specs.Prelude.{◌+◌, suc, true, false, Option, reverse}
 use Rattle.std.proofs.lemmas.List.{reverse-reverse}
@@ -9,7 +9,7 @@ use Rattle.page_types.specs.Records.{kind_number}
 use Rattle.page_types.specs.declared.record.Record.{Record}
 use Rattle.core_state.specs.Log.{Log, In}
 use Rattle.core_state.specs.History.{History, IsHistory}
-use Rattle.core_state.specs.States.{StateValue, heap_pages}
+use Rattle.core_state.specs.States.{StateValue}
 use Rattle.core_state.proofs.Histories.{history_one}
 use Rattle.core_maintenance.specs.Keeping.{HistoryHolds}
 use Rattle.buffer_frames.specs.Frames.{FramesValue, Stands, RunsOn}
@@ -30,7 +30,7 @@ use Rattle.gin_vacuum.proofs.InTurn.{rises_then, runs_then}
 use Rattle.gin_vacuum.proofs.Rooms.{rooms_same, rooms_then}
 use Rattle.engine.specs.Answers.{HasLogged}
 use Rattle.engine.specs.Cleaning.{AreCleaning, HasMoved}
-use Rattle.engine.specs.Db.{DbValue, state_of}
+use Rattle.engine.specs.Db.{DbValue}
 use Rattle.engine.specs.Going.{Goes, TimeGoesOn, stays, nothing, one}
 use Rattle.engine.specs.Vacuuming.{IsIndexKind}
 use Rattle.engine.specs.Inner.Cleaned.{IndexGoesOn, WorksThrough, CleansThrough, WorksUp, CleansUp}

@@ -1,27 +1,22 @@
 -- What was found dead stays so over a cleanup, and then has no linked row.
-use Rattle.std.proofs.Common.{◌≡◌, ◌≢◌, ◌⊎◌, ◌≤◌, ◌<◌, ℕ, suc, List, [], ◌∷◌, ◌++◌, length, refl, sym, ap, subst, ◌∙◌}
-use Rattle.std.proofs.Common.{inl, inr, arith, length-append}
+use Rattle.std.proofs.Common.{◌≡◌, ◌≢◌, ◌⊎◌, ◌≤◌, ◌<◌, ℕ, List, [], ◌∷◌, ◌++◌, length, refl, sym, ap, subst, ◌∙◌}
+use Rattle.std.proofs.Common.{inl, inr, arith}
 use Rattle.std.specs.Prelude.{◌-◌, drop, None}
-use Rattle.std.specs.List.{AllByRecursion}
 use Rattle.disk_trait.specs.declared.device.Disk.{Ghosts as Disk}
 use Rattle.wal.specs.Waiting.{down_of}
 use Rattle.page_types.specs.Records.{kind_number}
-use Rattle.page_types.specs.declared.page.Head.{Head}
 use Rattle.page_types.specs.declared.page.Row.{Row}
 use Rattle.page_types.specs.declared.record.Record.{Record}
 use Rattle.core_state.specs.Log.{Log, Pages, In, Shows, cut}
-use Rattle.core_state.specs.Documents.{Doc, Has, IsDead}
-use Rattle.core_state.specs.Index.{IsLinked, HasRow}
+use Rattle.core_state.specs.Documents.{IsDead}
+use Rattle.core_state.specs.Index.{IsLinked}
 use Rattle.core_state.specs.Legal.{IsLegal}
 use Rattle.core_state.specs.VacuumRules.{MayLeave}
-use Rattle.core_state.proofs.Showing.{shown_one}
 use Rattle.core_vacuum.specs.DeadHeads.{DeadHeadsHold, LeavesHeads}
 use Rattle.core_vacuum.specs.DeadHeads as laws
 use Rattle.buffer_frames.specs.Frames.{FramesValue, Stands, Behind}
-use Rattle.buffer_frames.specs.Journals.{owed_abort}
-use Rattle.buffer_frames.specs.Passes.{IsPassOf, HasAdded, Seen}
+use Rattle.buffer_frames.specs.Passes.{IsPassOf, Seen}
 use Rattle.buffer_frames.specs.declared.pass.Pass.{Pass}
-use Rattle.buffer_frames.proofs.AtHand.{cut_whole, cut_length, log_length, parts_of}
 use Rattle.buffer_frames.proofs.FirstLogs.{shown_by}
 use Rattle.buffer_frames.proofs.HistoryParts.{legal_before}
 use Rattle.gin_cleanup.specs.Cleaning.{IsStillIn}
@@ -30,7 +25,7 @@ use Rattle.gin_place.proofs.Logs.{cut_front}
 use Rattle.gin_vacuum.specs.Vacuum.{HasDeadHead, HaveDeadHeads, AreDead}
 use Rattle.engine.specs.Inner.Cleaned.{CleansThrough, AreGoneSince}
 use Rattle.engine.specs.Inner.Vacuumed.{SeesAll}
-use Rattle.engine.proofs.DeadLogs.{PlaceNone, facts, same_doc, head_still, dead_then, more_dead, some_more, has_placed}
+use Rattle.engine.proofs.DeadLogs.{PlaceNone, facts, head_still, dead_then, more_dead, some_more}
 use Rattle.engine.proofs.Since.{Since, Grown, grown}
 
 -- a log that isn't longer is whole
@@ -146,8 +141,8 @@ module _ {D : Type 0} (device : Disk D) (heads : DeadHeadsHold) (f g : FramesVal
       b.stands
       b.legal P.0 P.1 i on in
       let k = kept heads b.old b.came.later P.0 Q (some_old b.old b.long) (subst IsLegal b.came.log_is legal) P.1
-      (subst (λ (L : Log). Shows L Q) b.came.log_is shown) (leaves b.old R b.came) (place_none b.old R b.came) p.floor i h
-      in
+      (subst (λ (L : Log). Shows L Q) b.came.log_is shown) (leaves b.old R b.came) (place_none b.old R b.came) p.floor i
+      h in
       record {
         doc = k.doc;
         head = k.head;

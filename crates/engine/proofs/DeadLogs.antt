@@ -1,20 +1,17 @@
 -- Dead documents over the records of a vacuum.
-use Rattle.std.proofs.Common.{◌≡◌, ◌≢◌, ◌⊎◌, ◌≤◌, ◌<◌, ℕ, suc, List, [], ◌∷◌, ◌++◌, length, refl, sym, ap, ap₂, subst}
+use Rattle.std.proofs.Common.{◌≡◌, ◌≢◌, ◌⊎◌, ◌≤◌, ◌<◌, ℕ, List, [], ◌∷◌, ◌++◌, refl, sym, ap, ap₂, subst}
 use Rattle.std.proofs.Common.{◌∙◌}
-use Rattle.std.proofs.Common.{inl, inr, arith, append_assoc, length-append}
-use Rattle.std.specs.Prelude.{◌+◌, Option, Some, None}
+use Rattle.std.proofs.Common.{inl, inr, arith}
 use Rattle.page_types.specs.Records.{kind_number}
 use Rattle.page_types.specs.declared.page.Head.{Head}
-use Rattle.page_types.specs.declared.page.Row.{Row}
 use Rattle.page_types.specs.declared.record.Record.{Record}
 use Rattle.page_types.specs.declared.record.Kind.{Kind}
 use Rattle.page_types.specs.declared.record.Kind.TheVariants as kind
 use Rattle.ts_base.specs.Keys.{Key}
 use Rattle.core_state.specs.Log.{Log, Pages, In, Shows, commits, commits_with}
 use Rattle.core_state.specs.Documents.{Doc, Has, IsDead, doc_at, name_of, placed, placed_with, marked}
-use Rattle.core_state.specs.History.{Document, IsStored}
-use Rattle.core_state.specs.Index.{IsLinked, HasRow, Pending, Main, NoPair}
-use Rattle.core_state.specs.Legal.{IsLegal, RecordsAreValid}
+use Rattle.core_state.specs.Index.{HasRow, Pending, Main}
+use Rattle.core_state.specs.Legal.{IsLegal}
 use Rattle.core_state.specs.Steady.{IsIndexWork, SteadyFacts}
 use Rattle.core_state.specs.VacuumRules.{MayLeave}
 use Rattle.core_state.proofs.LawsHold.{steady, bullets, documents}
@@ -24,7 +21,7 @@ use Rattle.core_state.proofs.PlacedOnce.{marked_cases, one_named}
 use Rattle.core_state.proofs.RunningOnes.{same_or_other}
 use Rattle.core_state.proofs.Showing.{shown_one}
 use Rattle.core_vacuum.specs.DeadHeads.{HasDeadHead}
-use Rattle.core_vacuum.specs.Keeping.{IsVacuum, VacuumHolds, VacuumKeeps}
+use Rattle.core_vacuum.specs.Keeping.{IsVacuum, VacuumHolds}
 use Rattle.buffer_frames.proofs.FirstLogs.{shown_by}
 use Rattle.engine.specs.Vacuuming.{IsLive}
 

@@ -17,7 +17,7 @@ use Rattle.engine.specs.declared.error.DbError.{DbError}
 use Rattle.engine.specs.declared.error.DbError.TheVariants.{NoDocument, Conflict, StoreFull, LogFull, XidsSpent, Down}
 use Rattle.engine.specs.declared.error.DbError.TheVariants.{DiskFault, BadPage, OutOfMemory}
 use Rattle.engine.proofs.Paths.{one_nothing, goes_on, goes_still}
-use Rattle.engine.proofs.Paths.{none_in_turn, fault_in_turn, fault_still, none_still, told_none, told_fault, untold}
+use Rattle.engine.proofs.Paths.{none_in_turn, fault_in_turn, fault_still, none_still, told_none, untold}
 use Rattle.engine.proofs.Plain.{commit_is, abort_is}
 
 -- a pass that gives up its transaction

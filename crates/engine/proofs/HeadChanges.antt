@@ -1,7 +1,7 @@
 -- Heap pages with one head changed, and the steps that are made of them.
 use Rattle.std.proofs.Common.{◌≡◌, ℕ, ◌<◌, ◌≤◌, List, [], ◌∷◌, length, set, take, refl, sym, ap, subst, ◌∙◌}
 use Rattle.std.proofs.Common.{ap₂, ◌++◌, ◌⊎◌, ⊎_elim, arith}
-use Rattle.std.specs.Prelude.{Option, Some, None, IsSome, MatchOption}
+use Rattle.std.specs.Prelude.{Option, Some, IsSome}
 use Rattle.std.specs.Option.{option_map}
 use Rattle.std.specs.List.{AllByRecursion}
 use Rattle.std.proofs.lemmas.List.{length-set, take_all}
@@ -125,33 +125,40 @@ pub is_heap_page : (b : Body) (k : ℕ) (h : Head) → slot_at (slots_in b) k �
 is_heap_page (body.Heap slots) k h there not = not slots refl
 is_heap_page _ k h there not = cc
 
-leads_here : (page : Page) (slots new : List (Option Head)) (k j part : ℕ) (f : HeadFields) (v : List ℕ)
-    → page.body ≡ body.Heap slots → j ≡ k → Some (head_with f v) ≡ head_on page k
-    → new ≡ set slots j (option_map (λ (h : Head). head_with (record f { overflow = part }) h.vector) (slot_at slots j))
-    → LeadsOn page k part (record page { body = body.Heap new }) f.overflow
-leads_here page slots new k j part f v was e there list =
-    let h : Head = head_with f v in
-    let with_fields = λ (s : Option Head). option_map
-    (λ (g : Head). head_with (record f { overflow = part }) g.vector) s in
-    let at : slot_at slots k ≡ Some h = ap (λ (b : Body). slot_at (slots_in b) k) (sym was) ∙ sym there in
-    record {
-      head = h;
-      there = sym there;
-      changes = slot_changes page slots new k h (record h { overflow = part }) was (sym there)
-          (list ∙ ap (λ (i : ℕ). set slots i (with_fields (slot_at slots i))) e
-          ∙ ap (λ (s : Option Head). set slots k (with_fields s)) at);
-      next_is = refl;
-    }
+fields_here : (page : Page) (slots new : List (Option Head)) (k j : ℕ) (f : HeadFields)
+    → page.body ≡ body.Heap slots → j ≡ k
+    → new ≡ set slots j (option_map (λ (h : Head). head_with f h.vector) (slot_at slots j))
+    → (h : Head) → head_on page k ≡ Some h
+    → ChangesSlot page k (Some (head_with f h.vector)) (record page { body = body.Heap new })
+fields_here page slots new k j f was e list h there =
+    let with_fields = λ (s : Option Head). option_map (λ (g : Head). head_with f g.vector) s in
+    let at : slot_at slots k ≡ Some h = ap (λ (b : Body). slot_at (slots_in b) k) (sym was) ∙ there in
+    slot_changes page slots new k h (head_with f h.vector) was there
+    (list ∙ ap (λ (i : ℕ). set slots i (with_fields (slot_at slots i))) e
+    ∙ ap (λ (s : Option Head). set slots k (with_fields s)) at)
 
 -- the page of which a copy was changed so
-pub leads_on : (page heap : Page) (slots new : List (Option Head)) (k j part : ℕ) (f : HeadFields) (v : List ℕ)
-    → heap ≡ page → heap.body ≡ body.Heap slots → j ≡ k → Some (head_with f v) ≡ head_on page k
-    → new ≡ set slots j (option_map (λ (h : Head). head_with (record f { overflow = part }) h.vector) (slot_at slots j))
-    → LeadsOn page k part (record heap { body = body.Heap new }) f.overflow
-leads_on page heap slots new k j part f v same was e there list =
-    subst (λ (p : Page). LeadsOn p k part (record heap { body = body.Heap new }) f.overflow) same
-    (leads_here heap slots new k j part f v was e
-    (there ∙ ap (λ (p : Page). head_on p k) (sym same)) list)
+pub fields_on : (page heap : Page) (slots new : List (Option Head)) (k j : ℕ) (f : HeadFields)
+    → heap ≡ page → heap.body ≡ body.Heap slots → j ≡ k
+    → new ≡ set slots j (option_map (λ (h : Head). head_with f h.vector) (slot_at slots j))
+    → (h : Head) → head_on page k ≡ Some h
+    → ChangesSlot page k (Some (head_with f h.vector)) (record heap { body = body.Heap new })
+fields_on page heap slots new k j f same was e list h there =
+    subst (λ (p : Page). ChangesSlot p k (Some (head_with f h.vector)) (record heap { body = body.Heap new })) same
+    (fields_here heap slots new k j f was e list h (ap (λ (p : Page). head_on p k) same ∙ there))
+
+-- a head that gets the number of another page leads there
+pub led_by : (page : Page) (slot part : ℕ) (f : HeadFields) (v : List ℕ) (new : Page)
+    → Some (head_with f v) ≡ head_on page slot
+    → ((h : Head) → head_on page slot ≡ Some h
+    → ChangesSlot page slot (Some (head_with (record f { overflow = part }) h.vector)) new)
+    → LeadsOn page slot part new f.overflow
+led_by page slot part f v new there changes = record {
+  head = head_with f v;
+  there = sym there;
+  changes = changes (head_with f v) (sym there);
+  next_is = refl;
+}
 
 -- it has an encoding
 pub leads_is : (page new : Page) (k part next : ℕ) → LeadsOn page k part new next → IsPage page → part < page_limit
@@ -217,13 +224,6 @@ mark_step_is x name page copy marked step low same copy_is some marks is_page is
 
 part_is : (next : ℕ) (part : List ℕ) → next < page_limit → length part ≤ most_body → IsPage (part_page next part)
 part_is next part lt fits = record { right = lt; stamp = omega arith; body = tt; count = omega arith; fits = fits }
-
--- what a head leads to, where it is found
-pub led_by : (page : Page) (slot part : ℕ) (o : Option (Page × ℕ)) (new : Page) (next : ℕ)
-    → MatchOption o (head_on page slot ≡ None) (λ (r : Page × ℕ). LeadsOn page slot part r.0 r.1)
-    → o ≡ Some (new, next) → LeadsOn page slot part new next
-led_by page slot part o new next led is = subst (λ (q : Option (Page × ℕ)).
-    MatchOption q (head_on page slot ≡ None) (λ (r : Page × ℕ). LeadsOn page slot part r.0 r.1)) is led
 
 pub part_step_is : (x : ℕ) (name : Name) (heap copy : Page) (part : List ℕ) (page number : ℕ) (new : Page) (next : ℕ)
     (step : Step) → name.page < page_limit → copy ≡ heap → number ≡ page

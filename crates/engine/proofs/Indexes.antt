@@ -1,6 +1,6 @@
 -- The keys of a document come to the pending list, and a document is put and indexed: the records, and
 -- why it isn't done.
-use Rattle.std.proofs.Common.{◌≡◌, ◌⊎◌, ◌<◌, ◌-◌, ℕ, zero, suc, List, [], ◌∷◌, ◌++◌, length, refl, sym, ap}
+use Rattle.std.proofs.Common.{◌≡◌, ◌⊎◌, ◌<◌, ◌+◌, ◌-◌, ℕ, zero, suc, List, [], ◌∷◌, ◌++◌, length, refl, sym, ap}
 use Rattle.std.proofs.Common.{subst}
 use Rattle.std.proofs.Common.{◌∙◌, inl, inr, arith, append_assoc, length-append}
 use Rattle.std.specs.Prelude.{Result, Ok, Err, OnErr}
@@ -95,6 +95,9 @@ refused_all A B (Err e) then a = then a
 
 -- ── the keys of a document ──
 
+one_and_more : (done more all : ℕ) → more ≡ all - done - 1 → done < all → done + suc more ≡ all
+one_and_more done more all rest few = omega arith
+
 module _ (x : ℕ) (d : Doc) (keys : List Key) (packed : List Page) (pack : ArePacked d.item keys packed)
     (done : List Record) (are : AllByRecursion (IsRowPageOf x d) done) where
   -- all pages were put, and are linked
@@ -110,7 +113,7 @@ module _ (x : ℕ) (d : Doc) (keys : List Key) (packed : List Page) (pack : AreP
       let link = some_link x d in
       let puts : List Record = done ++ next ∷ more.0 in
       let size : length puts ≡ length packed =
-      omega (arith, length-append done (next ∷ more.0), more.2, few) in (
+      length-append done (next ∷ more.0) ∙ one_and_more (length done) (length more.0) (length packed) more.2 few in (
         more.0 ++ link.0 ∷ [],
         AreIndexing.pages packed puts link.0 pack (both_all x d done (next ∷ more.0) are (is, more.1)) size link.1
             (sym (append_assoc done (next ∷ more.0) (link.0 ∷ []))),
@@ -199,7 +202,7 @@ module _ {D : Type 0} (device : Disk D) (old : DbValue D) (x : ℕ) (name : Name
         let r = some_row_page x (doc_of name) in
         stopped_at x (doc_of name) keys packed pack why.done why.are_put device old
         (λ (s : DbValue D) (q : Record). IsDueFrom device old keys q.kind × NeedsRowPage device q.kind × IsStoreFull s)
-        why.store r.0 (omega (arith, why.few, many)) r.1 (goes_on device before why.goes) (
+        why.store r.0 (subst (λ (k : ℕ). length why.done < k) many why.few) r.1 (goes_on device before why.goes) (
           subst (IsDueFrom device old keys) (sym (r.1).kind_is) full,
           subst (NeedsRowPage device) (sym (r.1).kind_is) tt,
           why.why,
@@ -207,13 +210,13 @@ module _ {D : Type 0} (device : Disk D) (old : DbValue D) (x : ℕ) (name : Name
     pages_cause n store.LogFull many why =
         stopped_at x (doc_of name) keys packed pack why.done why.are_put device old
         (λ (s : DbValue D) (q : Record). IsDueFrom device old keys q.kind × HasNoRoomFor s q) why.store why.why.0
-        (omega (arith, why.few, many)) why.why.1 (goes_on device before why.goes)
+        (subst (λ (k : ℕ). length why.done < k) many why.few) why.why.1 (goes_on device before why.goes)
         (subst (IsDueFrom device old keys) (sym (why.why.1).kind_is) full, why.why.2)
     pages_cause n (store.BadPage p) many why =
         let r = some_row_page x (doc_of name) in
         stopped_at x (doc_of name) keys packed pack why.done why.are_put device old
         (λ (s : DbValue D) (q : Record). IsBadRowPage device s name p ⊎ IsBadList s p) why.store r.0
-        (omega (arith, why.few, many)) r.1 (goes_on device before why.goes) (inl why.why)
+        (subst (λ (k : ℕ). length why.done < k) many why.few) r.1 (goes_on device before why.goes) (inl why.why)
     pages_cause n store.DiskFault many why = tt
     pages_cause n store.OutOfMemory many why = tt
     pages_cause n store.NoDocument many why = absurd why

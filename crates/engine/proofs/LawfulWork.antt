@@ -1,5 +1,5 @@
 -- What the refusal of a statement's work tells of a lawful store, from what its parts tell.
-use Rattle.std.proofs.Common.{◌≡◌, inl, inr, ℕ, List, [], sym, subst, ◌∙◌}
+use Rattle.std.proofs.Common.{◌≡◌, ℕ, List, [], sym, subst, ◌∙◌}
 use Rattle.std.specs.Prelude.{Option, Some, Result, Ok, Err, IfErr}
 use Rattle.std.specs.List.{All}
 use Rattle.std.proofs.lemmas.List.Elements.{All-nil, All-cons, All-head}

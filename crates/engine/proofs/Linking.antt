@@ -3,7 +3,6 @@ use Rattle.std.proofs.Common.{◌≡◌, ◌≢◌, ◌⊎◌, ◌<◌, ◌^◌,
 use Rattle.std.proofs.Common.{subst}
 use Rattle.std.proofs.Common.{◌∙◌, inl, inr, ⊎_elim, arith, length-append}
 use Rattle.std.specs.Prelude.{Option, Some, None, IfSome}
-use Rattle.std.proofs.lemmas.List.{length-map}
 use Rattle.std.specs.List.{flat_map, AllByRecursion}
 use Rattle.disk_trait.specs.declared.device.Disk.{Ghosts as Disk}
 use Rattle.ts_base.specs.Vectors.{Vector}
@@ -36,7 +35,7 @@ use Rattle.doc_heap.specs.HeapPages.{head_on}
 use Rattle.pending_list.specs.Packing.{ArePacked}
 use Rattle.pending_list.specs.Adding.{IsPendingPage}
 use Rattle.pending_list.proofs.LoggedRows.{have_all}
-use Rattle.buffer_frames.specs.Drawing.{HasEncoding, IsSheet, front_of, made_sheets, record_of}
+use Rattle.buffer_frames.specs.Drawing.{HasEncoding, IsSheet, record_of}
 use Rattle.buffer_frames.specs.Frames.{Stands, Behind}
 use Rattle.buffer_frames.specs.Passes.{IsPassOf, IsHolding, view_of}
 use Rattle.buffer_frames.specs.declared.pass.Pass.{Pass}

@@ -6,7 +6,7 @@ use Rattle.std.specs.Prelude.{Option, Some, None, Result, Ok, Err, MatchOption, 
 use Rattle.std.proofs.lemmas.List.{get_or-set_other, length-set}
 use Rattle.std.proofs.lemmas.Option.{slice_get-get_or, slice_get_within, get_or_from_slice_get}
 use Rattle.disk_trait.specs.declared.device.Disk.{Ghosts as Disk}
-use Rattle.core_state.specs.Log.{Log, Pages, Shows, cut}
+use Rattle.core_state.specs.Log.{Pages, Shows, cut}
 use Rattle.core_state.specs.Documents.{Doc, IsDead}
 use Rattle.core_state.proofs.RunningOnes.{same_or_other}
 use Rattle.snap_pins.specs.Taken.{IsPinned, IsFree}

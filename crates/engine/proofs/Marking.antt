@@ -32,7 +32,7 @@ use Rattle.core_state.proofs.Steps.Seen.{held_page}
 use Rattle.core_state.proofs.Steps.Documents.{mark_may}
 use Rattle.doc_heap.specs.HeapPages.{head_on, ChangesSlot}
 use Rattle.doc_heap.proofs.HeapSheets.{marked_logged}
-use Rattle.buffer_frames.specs.Drawing.{HasEncoding, record_of, front_of, made_sheets}
+use Rattle.buffer_frames.specs.Drawing.{HasEncoding, record_of}
 use Rattle.buffer_frames.specs.Journals.{after_owed, next_record}
 use Rattle.buffer_frames.specs.Frames.{Stands, Behind}
 use Rattle.buffer_frames.specs.Passes.{IsPassOf, IsHolding, Seen, view_of}

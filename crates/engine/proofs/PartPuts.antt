@@ -15,7 +15,7 @@ use Rattle.core_state.specs.Legal.{IsLegal}
 use Rattle.core_state.specs.States.{StateValue}
 use Rattle.core_state.specs.Steps.{IsNewSheet}
 use Rattle.doc_heap.specs.HeapPages.{head_on}
-use Rattle.buffer_frames.specs.Drawing.{front_of, made_sheets, record_of}
+use Rattle.buffer_frames.specs.Drawing.{record_of}
 use Rattle.buffer_frames.specs.Frames.{Stands}
 use Rattle.buffer_frames.specs.LogCauses.{IsCalm}
 use Rattle.buffer_frames.specs.Passes.{IsPassOf, Seen}

@@ -29,7 +29,6 @@ use Rattle.core_state.proofs.Steps.Documents.{place_may}
 use Rattle.doc_heap.specs.HeapPages.{IsPlaced}
 use Rattle.doc_heap.specs.Logging.{IsHeapOrNew}
 use Rattle.doc_heap.proofs.HeapSheets.{placed_logged}
-use Rattle.buffer_frames.specs.Drawing.{front_of, made_sheets}
 use Rattle.buffer_frames.specs.Frames.{Behind}
 use Rattle.buffer_frames.specs.Journals.{next_record}
 use Rattle.buffer_frames.specs.Passes.{IsPassOf, IsHolding, Seen, view_of}

@@ -1,9 +1,8 @@
 -- A page of a document's rows is put: what is logged, and what is there of the document then.
-use Rattle.std.proofs.Common.{◌≡◌, ◌≢◌, ◌⊎◌, ◌<◌, ◌^◌, ℕ, suc, Bool, List, [], ◌∷◌, ◌++◌, map, set, refl}
+use Rattle.std.proofs.Common.{◌≡◌, ◌≢◌, ◌⊎◌, ◌<◌, ◌^◌, ℕ, suc, Bool, List, [], ◌∷◌, ◌++◌, map, refl}
 use Rattle.std.proofs.Common.{sym}
 use Rattle.std.proofs.Common.{ap, ap₂, subst, ◌∙◌, inl, inr, ⊎_elim, arith}
-use Rattle.std.specs.Prelude.{Option, Some, None, MatchOption, true, false, cond, ◌==◌}
-use Rattle.std.specs.Option.{option_map}
+use Rattle.std.specs.Prelude.{Option, Some, true, false, cond, ◌==◌}
 use Rattle.std.specs.List.{flat_map}
 use Rattle.disk_trait.specs.declared.device.Disk.{Ghosts as Disk}
 use Rattle.ts_base.specs.Vectors.{Vector}
@@ -38,11 +37,11 @@ use Rattle.core_state.proofs.Histories.{head_one}
 use Rattle.core_state.proofs.LawsHold.{put_in_front}
 use Rattle.core_state.proofs.Steps.Seen.{held_page, own_holds}
 use Rattle.core_state.proofs.Steps.Pending.{put_pending_may}
-use Rattle.doc_heap.specs.HeapPages.{head_on}
+use Rattle.doc_heap.specs.HeapPages.{head_on, ChangesSlot}
 use Rattle.pending_list.specs.Packing.{ArePacked, row_of}
 use Rattle.pending_list.specs.Adding.{IsPendingPage}
 use Rattle.pending_list.proofs.LoggedRows.{pages_follow}
-use Rattle.buffer_frames.specs.Drawing.{HasEncoding, front_of, made_sheets, record_of}
+use Rattle.buffer_frames.specs.Drawing.{HasEncoding, record_of}
 use Rattle.buffer_frames.specs.Frames.{Stands, Behind}
 use Rattle.buffer_frames.specs.Passes.{IsPassOf, IsHolding, Seen, view_of}
 use Rattle.buffer_frames.specs.declared.pass.Pass.{Pass}
@@ -52,39 +51,11 @@ use Rattle.engine.specs.Inner.Parts.{IsRowedSoFar, HasRows}
 use Rattle.engine.specs.Inner.Changing.{doc_of, ChangesDocument, MayLogStep, LogsStep}
 use Rattle.engine.specs.Inner.Indexing.{LeadsToRows, IsRowPageStep, IsNextPage, row_page, last_then}
 use Rattle.engine.proofs.Carrying.{rows_kept}
-use Rattle.engine.proofs.HeadChanges.{slot_changes, changed_is, head_is, slot_below}
+use Rattle.engine.proofs.HeadChanges.{changed_is, head_is, slot_below}
 use Rattle.engine.proofs.Marking.{page_is, slot_is}
 use Rattle.engine.proofs.StepSeen.{GrowsBy, after_step, owes_of, own_here, own_begun, runs_still}
 
 -- ── a head that leads to a page of rows ──
-
-leads_here : (page : Page) (slots new : List (Option Head)) (k j rows : ℕ) (f : HeadFields) (v : List ℕ)
-    → page.body ≡ body.Heap slots → j ≡ k → Some (head_with f v) ≡ head_on page k
-    → new ≡ set slots j (option_map (λ (h : Head). head_with (record f { private = rows }) h.vector) (slot_at slots j))
-    → LeadsToRows page k rows (record page { body = body.Heap new }) f.private
-leads_here page slots new k j rows f v was e there list =
-    let h : Head = head_with f v in
-    let with_fields = λ (s : Option Head). option_map
-    (λ (g : Head). head_with (record f { private = rows }) g.vector) s in
-    let at : slot_at slots k ≡ Some h = ap (λ (b : Body). slot_at (slots_in b) k) (sym was) ∙ sym there in
-    record {
-      head = h;
-      there = sym there;
-      changes = slot_changes page slots new k h (record h { private = rows }) was (sym there)
-          (list ∙ ap (λ (i : ℕ). set slots i (with_fields (slot_at slots i))) e
-          ∙ ap (λ (s : Option Head). set slots k (with_fields s)) at);
-      next_is = refl;
-    }
-
--- the page of which a copy was changed so
-pub rows_led : (page heap : Page) (slots new : List (Option Head)) (k j rows : ℕ) (f : HeadFields) (v : List ℕ)
-    → heap ≡ page → heap.body ≡ body.Heap slots → j ≡ k → Some (head_with f v) ≡ head_on page k
-    → new ≡ set slots j (option_map (λ (h : Head). head_with (record f { private = rows }) h.vector) (slot_at slots j))
-    → LeadsToRows page k rows (record heap { body = body.Heap new }) f.private
-rows_led page heap slots new k j rows f v same was e there list =
-    subst (λ (p : Page). LeadsToRows p k rows (record heap { body = body.Heap new }) f.private) same
-    (leads_here heap slots new k j rows f v was e
-    (there ∙ ap (λ (p : Page). head_on p k) (sym same)) list)
 
 -- it has an encoding, and so has the number of the other page
 pub rows_lead_is : (page new : Page) (k rows next : ℕ) → LeadsToRows page k rows new next → IsPage page
@@ -104,12 +75,18 @@ rows_lead_is page new k rows next w is lt =
       omega (arith, w.next_is, h.private),
     )
 
--- what a head leads to, where it is found
-pub rows_by : (page : Page) (slot rows : ℕ) (o : Option (Page × ℕ)) (new : Page) (next : ℕ)
-    → MatchOption o (head_on page slot ≡ None) (λ (r : Page × ℕ). LeadsToRows page slot rows r.0 r.1)
-    → o ≡ Some (new, next) → LeadsToRows page slot rows new next
-rows_by page slot rows o new next led is = subst (λ (q : Option (Page × ℕ)).
-    MatchOption q (head_on page slot ≡ None) (λ (r : Page × ℕ). LeadsToRows page slot rows r.0 r.1)) is led
+-- a head that gets the number of another page of rows leads there
+pub rows_by : (page : Page) (slot rows : ℕ) (f : HeadFields) (v : List ℕ) (new : Page)
+    → Some (head_with f v) ≡ head_on page slot
+    → ((h : Head) → head_on page slot ≡ Some h
+    → ChangesSlot page slot (Some (head_with (record f { private = rows }) h.vector)) new)
+    → LeadsToRows page slot rows new f.private
+rows_by page slot rows f v new there changes = record {
+  head = head_with f v;
+  there = sym there;
+  changes = changes (head_with f v) (sym there);
+  next_is = refl;
+}
 
 -- ── the step ──
 

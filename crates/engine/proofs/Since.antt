@@ -1,7 +1,7 @@
 -- What records of work on the index came to a log since an earlier one, with the owed Abort.
 use Rattle.std.proofs.Common.{◌≡◌, ◌≢◌, ◌⊎◌, ◌≤◌, ◌<◌, ℕ, suc, Bool, true, false, List, [], ◌∷◌, ◌++◌, length, refl}
 use Rattle.std.proofs.Common.{sym, ap}
-use Rattle.std.proofs.Common.{subst, ◌∙◌, inl, inr, arith, append_assoc, length-append}
+use Rattle.std.proofs.Common.{subst, ◌∙◌, inl, inr, arith, append_assoc}
 use Rattle.std.specs.Prelude.{◌+◌, Option, Some, None, IfSome, max}
 use Rattle.std.specs.List.{AllByRecursion}
 use Rattle.disk_trait.specs.declared.device.Disk.{Ghosts as Disk}
@@ -10,15 +10,14 @@ use Rattle.page_types.specs.Records.{kind_number}
 use Rattle.page_types.specs.declared.record.Record.{Record}
 use Rattle.page_types.specs.declared.record.Kind.{Kind}
 use Rattle.page_types.specs.declared.record.Kind.TheVariants as kind
-use Rattle.core_state.specs.Log.{Log, Pages, In, Shows, cut}
+use Rattle.core_state.specs.Log.{Log, In, cut}
 use Rattle.core_state.specs.Legal.{IsLegal}
 use Rattle.core_state.specs.Steady.{IsMaintenance}
 use Rattle.core_state.proofs.PageLists.{in_either}
-use Rattle.buffer_frames.specs.Frames.{FramesValue, Stands, Behind}
+use Rattle.buffer_frames.specs.Frames.{FramesValue, Stands}
 use Rattle.buffer_frames.specs.Journals.{RestsFrom, owed_abort}
 use Rattle.buffer_frames.specs.Passes.{IsPassOf, HasAdded, GoesOnBy, kinds_of, before_more}
 use Rattle.buffer_frames.specs.declared.pass.Pass.{Pass}
-use Rattle.buffer_frames.proofs.Added.{none_by_kinds}
 use Rattle.buffer_frames.proofs.AtHand.{rests_of, cut_whole, log_length}
 use Rattle.buffer_frames.proofs.Begun.{same_by_none}
 use Rattle.buffer_frames.proofs.HistoryParts.{legal_before}

@@ -1,11 +1,10 @@
 -- Why a vacuum ends early.
 use Rattle.std.proofs.Common.{◌≡◌, ◌⊎◌, ◌≤◌, ℕ, Bool, List, [], ◌∷◌, ◌++◌, refl, sym, subst, ◌∙◌, arith, append-nil}
 use Rattle.std.proofs.Common.{inl, inr}
-use Rattle.std.specs.Prelude.{Option, Some, None, Result, Ok, Err, OnOk, IfErr}
+use Rattle.std.specs.Prelude.{Some, None, Result, Ok, Err, OnOk, IfErr}
 use Rattle.std.specs.List.{AllByRecursion}
 use Rattle.disk_trait.specs.declared.device.Disk.{Ghosts as Disk}
 use Rattle.wal.specs.Waiting.{down_of}
-use Rattle.page_types.specs.Numbers.{page_limit}
 use Rattle.core_state.specs.Log.{Log}
 use Rattle.buffer_frames.specs.Frames.{FramesValue, Stands}
 use Rattle.buffer_frames.specs.Passes.{IsPassOf, HasAdded, GoesOnBy}
@@ -14,7 +13,6 @@ use Rattle.buffer_frames.proofs.Added.{on_in_turn}
 use Rattle.buffer_frames.proofs.Begun.{same_by_none}
 use Rattle.gin_place.specs.Causes.{Finds}
 use Rattle.gin_place.specs.Faults.{MetNoFault, FaultBy}
-use Rattle.gin_place.specs.Going.{WorksOn}
 use Rattle.gin_place.specs.declared.error.PlaceError.{PlaceError}
 use Rattle.gin_place.specs.declared.error.PlaceError.TheVariants.{StoreFull, LogFull, DiskFault, Down, BadPage}
 use Rattle.gin_place.specs.declared.error.PlaceError.TheVariants.{OutOfMemory}

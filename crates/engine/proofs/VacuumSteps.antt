@@ -1,15 +1,12 @@
 -- A vacuum step by step: what was found, the cleanup, and what is taken out.
-use Rattle.std.proofs.Common.{◌≡◌, ◌⊎◌, ◌≤◌, ◌<◌, ℕ, List, [], ◌∷◌, ◌++◌, length, refl, sym, ap, subst, ◌∙◌, inl, inr}
+use Rattle.std.proofs.Common.{◌≡◌, ◌⊎◌, ◌≤◌, ◌<◌, ℕ, List, [], ◌∷◌, ◌++◌, subst, ◌∙◌, inl, inr}
 use Rattle.std.proofs.Common.{arith}
 use Rattle.std.specs.List.{AllByRecursion}
 use Rattle.disk_trait.specs.declared.device.Disk.{Ghosts as Disk}
-use Rattle.wal.specs.Waiting.{down_of}
 use Rattle.core_maintenance.specs.Keeping.{PairsHold, ShiftHolds}
-use Rattle.core_state.specs.Log.{Log}
-use Rattle.core_state.specs.Legal.{IsLegal}
 use Rattle.core_vacuum.specs.DeadHeads.{DeadHeadsHold}
 use Rattle.core_vacuum.specs.Keeping.{VacuumHolds}
-use Rattle.buffer_frames.specs.Frames.{FramesValue, Stands}
+use Rattle.buffer_frames.specs.Frames.{FramesValue}
 use Rattle.buffer_frames.specs.Passes.{IsPassOf, HasAdded}
 use Rattle.buffer_frames.specs.declared.pass.Pass.{Pass}
 use Rattle.buffer_frames.proofs.Added.{added_in_turn}
@@ -17,12 +14,11 @@ use Rattle.buffer_frames.proofs.AtHand.{log_length}
 use Rattle.gin_place.specs.Going.{WorksOn}
 use Rattle.gin_place.specs.Placing.{HasRight}
 use Rattle.gin_place.specs.declared.error.PlaceError.{PlaceError}
-use Rattle.gin_place.specs.declared.error.PlaceError.TheVariants.{StoreFull, LogFull, DiskFault, Down, BadPage}
-use Rattle.gin_place.specs.declared.error.PlaceError.TheVariants.{OutOfMemory}
+use Rattle.gin_place.specs.declared.error.PlaceError.TheVariants.{StoreFull, LogFull, BadPage}
 use Rattle.gin_vacuum.specs.Finding.{IsFloor, HasFoundDead}
 use Rattle.gin_vacuum.specs.Vacuum.{HaveDeadHeads, AreDead}
 use Rattle.engine.specs.Cleaning.{IsAt, Comes}
-use Rattle.engine.specs.Vacuuming.{IsIndexKind, IsTakingOut, IsGone, OfDead, Stops, StopsFull}
+use Rattle.engine.specs.Vacuuming.{IsIndexKind, IsTakingOut, Stops, StopsFull}
 use Rattle.engine.specs.Inner.Cleaned.{CleansThrough, AreGoneSince}
 use Rattle.engine.specs.Inner.Vacuumed.{SeesAll, AreTakenOut, LeaveLinked, ArePlacedSince, IsVacuumed, EndsTaking}
 use Rattle.engine.specs.Inner.Vacuumed.{EndsVacuum}

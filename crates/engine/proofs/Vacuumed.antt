@@ -1,44 +1,40 @@
 -- What a vacuum has done at its end.
-use Rattle.std.proofs.Common.{◌≡◌, ◌≢◌, ◌⊎◌, ◌≤◌, ◌<◌, ℕ, suc, List, [], ◌∷◌, ◌++◌, length, refl, sym, ap, subst, ◌∙◌}
+use Rattle.std.proofs.Common.{◌≡◌, ◌≢◌, ◌⊎◌, ◌≤◌, ◌<◌, ℕ, List, [], ◌∷◌, ◌++◌, length, refl, sym, ap, subst, ◌∙◌}
 use Rattle.std.proofs.Common.{inl, inr, arith, length-append}
-use Rattle.std.specs.Prelude.{◌+◌, ◌-◌, take, Option, Some, None}
+use Rattle.std.specs.Prelude.{◌-◌, take, Option, Some, None}
 use Rattle.std.specs.List.{AllByRecursion}
 use Rattle.disk_trait.specs.declared.device.Disk.{Ghosts as Disk}
 use Rattle.wal.specs.Waiting.{down_of}
 use Rattle.page_types.specs.Records.{kind_number}
 use Rattle.page_types.specs.declared.page.Head.{Head}
-use Rattle.page_types.specs.declared.page.Row.{Row}
 use Rattle.page_types.specs.declared.record.Record.{Record}
-use Rattle.ts_base.specs.Keys.{Key}
 use Rattle.core_state.specs.Log.{Log, Pages, In, Shows, commits, cut}
 use Rattle.core_state.specs.Documents.{Doc, Has, IsDead, doc_at, head_of, placed}
-use Rattle.core_state.specs.Index.{IsLinked, HasRow, Pending, Main, NoPair}
+use Rattle.core_state.specs.Index.{HasRow, Main, NoPair}
 use Rattle.core_state.specs.Legal.{IsLegal}
 use Rattle.core_state.specs.VacuumRules.{MayLeave}
 use Rattle.core_state.proofs.LawsHold.{bullets}
 use Rattle.core_state.proofs.NeverAgain.{never_again, placed_then}
 use Rattle.core_state.proofs.RunningOnes.{same_or_other}
 use Rattle.core_maintenance.specs.Keeping.{PairsHold, ShiftHolds}
-use Rattle.core_vacuum.specs.Keeping as vacuums
 use Rattle.core_vacuum.specs.Keeping.{VacuumHolds}
-use Rattle.buffer_frames.specs.Frames.{FramesValue, Stands, Behind}
-use Rattle.buffer_frames.specs.Passes.{IsPassOf, HasAdded, Seen}
+use Rattle.buffer_frames.specs.Frames.{FramesValue, Stands}
+use Rattle.buffer_frames.specs.Passes.{HasAdded}
 use Rattle.buffer_frames.specs.declared.pass.Pass.{Pass}
 use Rattle.buffer_frames.proofs.Added.{added_in_turn}
 use Rattle.buffer_frames.proofs.AtHand.{log_length, parts_of}
 use Rattle.buffer_frames.proofs.FirstLogs.{shown_by}
 use Rattle.buffer_frames.proofs.HistoryParts.{legal_before}
-use Rattle.gin_cleanup.specs.Cleaning.{IsStillIn}
 use Rattle.gin_cleanup.specs.Going.{IsCleaningKind}
 use Rattle.gin_place.proofs.Carrying.{cut_cut}
 use Rattle.gin_place.proofs.Logs.{cut_front}
-use Rattle.gin_vacuum.specs.Finding.{HasFoundDead, WasDead, HaveAll}
+use Rattle.gin_vacuum.specs.Finding.{HasFoundDead, HaveAll}
 use Rattle.gin_vacuum.specs.Unlinked.{AreUnlinked, HadRow}
 use Rattle.gin_vacuum.specs.Vacuum.{AreDead, AreSwept, AreOut, AreFreedSince}
-use Rattle.engine.specs.Vacuuming.{IsFloor, IsIndexKind, IsTakingOut, IsLive, IsGone, OfDead}
-use Rattle.engine.specs.Inner.Cleaned.{WorksThrough, CleansThrough, AreGoneSince}
+use Rattle.engine.specs.Vacuuming.{IsFloor, IsIndexKind, IsLive, IsGone}
+use Rattle.engine.specs.Inner.Cleaned.{AreGoneSince}
 use Rattle.engine.specs.Inner.Vacuumed.{SeesAll, IsTakenOut, AreTakenOut, LeaveLinked, ArePlacedSince}
-use Rattle.engine.proofs.DeadKept.{cut_all, seen_now}
+use Rattle.engine.proofs.DeadKept.{seen_now}
 use Rattle.engine.proofs.DeadLogs.{PlaceNone, Takes, dead_placed, has_placed, placed_same, live_stays, mains_over}
 use Rattle.engine.proofs.DeadLogs.{rows_over}
 use Rattle.engine.proofs.PendingMoved.{moved_all}

@@ -11,7 +11,7 @@ use page_types::Name;
 use std::alloc::{AllocError, Global};
 
 /// Whether the document of a name is in the snapshot of so many commits.
-#[derive(Clone, Copy, Debug)]
+#[derive(Clone, Copy)]
 pub struct IsListed {
     pub name: Name,
     pub commits: u32,
@@ -42,7 +42,7 @@ impl Ask<bool> for IsListed {
 }
 
 /// How a head is to a snapshot.
-#[derive(Clone, Copy, Debug, PartialEq, Eq)]
+#[derive(Clone, Copy)]
 pub enum Standing {
     /// The snapshot does not see it.
     Unseen,
@@ -54,7 +54,7 @@ pub enum Standing {
 }
 
 /// How the head with these xids is to the snapshot of so many commits.
-#[derive(Clone, Copy, Debug)]
+#[derive(Clone, Copy)]
 pub struct HeadStanding {
     pub inserted_by: u32,
     pub deleted_by: u32,
@@ -84,7 +84,7 @@ impl Ask<Standing> for HeadStanding {
 }
 
 /// The old heap page with this number, from 0, that a head is tried on.
-#[derive(Clone, Copy, Debug)]
+#[derive(Clone, Copy)]
 pub struct HeapPage {
     pub number: u32,
 }
@@ -100,7 +100,7 @@ impl Ask<Option<u32>> for HeapPage {
 }
 
 /// A page that may be taken as a new one, and the number up to which deleted pages may be.
-#[derive(Clone, Copy, Debug)]
+#[derive(Clone, Copy)]
 pub struct NewPage;
 
 impl Ask<Option<(u32, u64)>> for NewPage {

@@ -10,7 +10,8 @@ ghost use Rattle.core_state.specs.Documents.{item_at};
 ghost use Rattle.doc_heap.specs.HeapPages.{head_on};
 ghost use Rattle.engine.specs.Work.{parts_for};
 ghost use Rattle.engine.specs.Places.{head_for};
-ghost use Rattle.engine.specs.Inner.Changing.{HasFields, LeadsOn, IsMarkStep, IsPartStep, place_of};
+ghost use Rattle.core_state.specs.Steps.{sheet};
+ghost use Rattle.engine.specs.Inner.Changing.{HasFields, LeavesFields, IsMarkStep, IsPartStep, place_of, part_page};
 ghost use Rattle.engine.specs.declared.asks.Standing.TheVariants.{Unseen, Seen, Past};
 ghost use Rattle.engine.specs.declared.error.DbError.TheVariants.{OutOfMemory, BadPage, NoDocument, Conflict};
 
@@ -74,27 +75,41 @@ fn part_at(bytes: &[u8], number: usize) -> &[u8]
     &bytes[start..end]
 }
 
-/// The page, on which the head in a slot leads to this overflow page, and the page that it led to;
-/// none where the slot is free.
-fn with_part(page: &Page, slot: u16, part: u32) -> Result<Option<(Page, u32)>, AllocError>
-    ensures leads { IfOk result (λ o. MatchOption o (head_on page.now slot ≡ None)
-        (λ r. LeadsOn page.now slot part r.0 r.1)) }
-    ensures is_page { IfOk result (λ o. MatchOption o (head_on page.now slot ≡ None)
-        (λ r. IsPage page.now → part < page_limit → IsPage r.0)) }
+/// Leaves a copy of a page with these fields in the head that is in the slot.
+pub(crate) fn leave_fields(
+    step: &mut Step,
+    number: u32,
+    page: &Page,
+    slot: u16,
+    fields: HeadFields,
+) -> Result<(), AllocError>
+    requires { IsSome (head_on page.now slot) }
+    ensures { OnOk result (LeavesFields number page.now slot fields step.old step.new) }
 {
-    let Some(found) = head(page, slot) else {
-        return Ok(None);
-    };
-    let next = found.fields.overflow;
-    let fields = HeadFields {
-        overflow: part,
-        ..found.fields
-    };
     let mut heap = page.clone()?;
     if let Body::Heap(slots) = &mut heap.body {
         slots.set_fields(usize::from(slot), fields);
     }
-    Ok(Some((heap, next)))
+    step.leave(Sheet::new(number, heap))?;
+    Ok(())
+}
+
+/// Leaves an overflow page with this part of a vector, which leads to the next.
+fn leave_part(
+    alloc: Global,
+    step: &mut Step,
+    number: u32,
+    right: u32,
+    part: &[u8],
+) -> Result<(), AllocError>
+    ensures { OnOk result (step.new ≡ record step.old {
+      after = step.old.after ++ sheet number (part_page right part.now) ∷ [];
+    }) }
+{
+    let body = Body::Overflow(Bytes::from_slice(alloc, part)?);
+    let stamp = 0;
+    step.leave(Sheet::new(number, Page { right, stamp, body }))?;
+    Ok(())
 }
 
 /// The step that puts a part of a document's vector on a new page.
@@ -113,19 +128,21 @@ fn part_step(
     ensures bad { IfErr result (λ e. (e ≡ OutOfMemory) ⊎ ((e ≡ BadPage name.page)
         × IsPage heap.now.content × (head_on heap.now.content name.slot ≡ None))) }
 {
-    let (number, new_number) = (heap.number(), new.number());
-    let Some((page, right)) = with_part(heap.page(), name.slot, new_number)? else {
+    let (number, page, new_number) = (heap.number(), heap.page(), new.number());
+    let Some(found) = head(page, name.slot) else {
         return Err(DbError::BadPage { page: name.page });
     };
-    let body = Body::Overflow(Bytes::from_slice(alloc, part)?);
+    let fields = HeadFields {
+        overflow: new_number,
+        ..found.fields
+    };
     let kind = Kind::PutOverflow {
         item: item_of(name),
         serial: name.serial,
     };
     let mut step = Step::new(alloc, kind, xid);
-    step.leave(Sheet::new(number, page))?;
-    let stamp = 0;
-    step.leave(Sheet::new(new_number, Page { right, stamp, body }))?;
+    leave_fields(&mut step, number, page, name.slot, fields)?;
+    leave_part(alloc, &mut step, new_number, found.fields.overflow, part)?;
     Ok(step)
 }
 
@@ -362,7 +379,9 @@ impl<D: Disk> Db<D> {
         ensures lawful { IfErr result (λ e. MeetsNoBadPage D.Disk self.old e) }
     {
         let head = new_head(self.alloc, work.xid, bytes)?;
-        let Placed { held, page, slot } = self.choose_page(pass, &head)?;
+        let placed = self.choose_page(pass, &head);
+        drop(head);
+        let Placed { held, page, slot } = placed?;
         let number = held.number();
         match place_step(self.alloc, work.xid, number, slot, page) {
             Ok(step) => {

@@ -230,9 +230,9 @@ impl<D: Disk> Db<D> {
         ensures way { IfErr result (λ e. ComesToBadPage D.Disk self.old query.now e) }
         ensures lawful { IfErr result (λ e. MeetsNoBadPage D.Disk self.old e) }
     {
-        let found = self.search_now(pass, query);
+        let names = self.search_now(pass, query);
         self.frames.keeps_history();
-        found
+        names
     }
 
     /// The names of the commits of the snapshot, in their order.
@@ -263,9 +263,9 @@ impl<D: Disk> Db<D> {
         ensures fault { FaultIsTold D.Disk self.old self.new result }
         ensures lawful { IfErr result (λ e. MeetsNoBadPage D.Disk self.old e) }
     {
-        let listed = self.commits_now(pass);
+        let commits = self.commits_now(pass);
         self.frames.keeps_history();
-        listed
+        commits
     }
 
     /// A pass for another session, of room 1, which has seen as much.

@@ -14,10 +14,10 @@ ghost use Rattle.pending_list.specs.Adding.{IsPendingPage, HasNoRoom};
 ghost use Rattle.ts_base.specs.Vectors.{Vector, IsNormal};
 ghost use Rattle.ts_base.specs.Encoding.{IsEncoding};
 ghost use Rattle.ts_base.specs.Keys.{keys_of};
-ghost use Rattle.engine.specs.Inner.Indexing.{LeadsToRows, IsRowPageStep, IsRowStep, IsLinkStep, IsListEnd, end_then};
+ghost use Rattle.engine.specs.Inner.Indexing.{IsRowPageStep, IsRowStep, IsLinkStep, IsListEnd, end_then};
 ghost use Rattle.engine.specs.declared.error.DbError.TheVariants.{OutOfMemory, BadPage};
 
-use crate::changes::item_of;
+use crate::changes::{item_of, leave_fields};
 use crate::db::Db;
 use crate::error::DbError;
 use crate::list_end::ListEnd;
@@ -29,29 +29,6 @@ use page_types::{Body, HeadFields, Kind, Name, Page};
 use pending_list::{add_row, rows};
 use std::alloc::{AllocError, Global};
 
-/// The page, on which the head in a slot leads to this page of rows, and the page of rows that it led
-/// to; none where the slot is free.
-fn with_rows(page: &Page, slot: u16, rows: u32) -> Result<Option<(Page, u32)>, AllocError>
-    ensures leads { IfOk result (λ o. MatchOption o (head_on page.now slot ≡ None)
-        (λ r. LeadsToRows page.now slot rows r.0 r.1)) }
-    ensures is_page { IfOk result (λ o. MatchOption o (head_on page.now slot ≡ None)
-        (λ r. IsPage page.now → rows < page_limit → IsPage r.0 × (r.1 < page_limit))) }
-{
-    let Some(found) = head(page, slot) else {
-        return Ok(None);
-    };
-    let next = found.fields.private;
-    let fields = HeadFields {
-        private: rows,
-        ..found.fields
-    };
-    let mut heap = page.clone()?;
-    if let Body::Heap(slots) = &mut heap.body {
-        slots.set_fields(usize::from(slot), fields);
-    }
-    Ok(Some((heap, next)))
-}
-
 /// The step that puts a page of a document's rows on a new page.
 fn rows_step(
     alloc: Global,
@@ -59,7 +36,7 @@ fn rows_step(
     name: Name,
     heap: &Held,
     new: &Held,
-    rows: Page,
+    mut rows: Page,
 ) -> Result<Step, DbError>
     requires page { heap.now.page ≡ name.page }
     requires rows { IsPage rows }
@@ -69,18 +46,30 @@ fn rows_step(
     ensures bad { IfErr result (λ e. (e ≡ OutOfMemory) ⊎ ((e ≡ BadPage name.page)
         × IsPage heap.now.content × (head_on heap.now.content name.slot ≡ None))) }
 {
-    let (number, new_number) = (heap.number(), new.number());
-    let Some((page, right)) = with_rows(heap.page(), name.slot, new_number)? else {
+    let (number, page, new_number) = (heap.number(), heap.page(), new.number());
+    let Some(found) = head(page, name.slot) else {
+        drop(rows);
         return Err(DbError::BadPage { page: name.page });
+    };
+    let fields = HeadFields {
+        private: new_number,
+        ..found.fields
     };
     let kind = Kind::PutPending {
         item: item_of(name),
         serial: name.serial,
     };
     let mut step = Step::new(alloc, kind, xid);
-    step.leave(Sheet::new(number, page))?;
-    let (stamp, body) = (0, rows.body);
-    step.leave(Sheet::new(new_number, Page { right, stamp, body }))?;
+    match leave_fields(&mut step, number, page, name.slot, fields) {
+        Ok(()) => {}
+        Err(_) => {
+            drop(rows);
+            return Err(DbError::OutOfMemory);
+        }
+    }
+    rows.right = found.fields.private;
+    rows.stamp = 0;
+    step.leave(Sheet::new(new_number, rows))?;
     Ok(step)
 }
 
@@ -112,7 +101,7 @@ fn row_step(
 }
 
 /// The pages of a document's rows: the first, the last, and how many they are.
-#[derive(Clone, Copy, Debug)]
+#[derive(Clone, Copy)]
 struct Chain {
     first: u32,
     last: u32,
@@ -166,16 +155,21 @@ fn link_step(
     ensures bad { IfErr result (λ e. (e ≡ OutOfMemory) ⊎ ((e ≡ BadPage name.page)
         × IsPage heap.now.content × (head_on heap.now.content name.slot ≡ None))) }
 {
-    let number = heap.number();
-    let Some((page, first)) = with_rows(heap.page(), name.slot, 0)? else {
+    let (number, page) = (heap.number(), heap.page());
+    let Some(found) = head(page, name.slot) else {
         return Err(DbError::BadPage { page: name.page });
+    };
+    let first = found.fields.private;
+    let fields = HeadFields {
+        private: 0,
+        ..found.fields
     };
     let kind = Kind::LinkPending {
         item: item_of(name),
         serial: name.serial,
     };
     let mut step = Step::new(alloc, kind, xid);
-    step.leave(Sheet::new(number, page))?;
+    leave_fields(&mut step, number, page, name.slot, fields)?;
     leave_end(&mut step, end, Chain { first, last, pages })?;
     Ok(step)
 }
@@ -288,10 +282,17 @@ impl<D: Disk> Db<D> {
         ensures cause { IfErr result (λ e. CannotPutRowPage D.Disk self.old work.xid name e) }
         ensures lawful { IfErr result (λ e. MeetsNoBadPage D.Disk self.old e) }
     {
-        let heap = self.hold_page(pass, name.page)?;
+        let heap = match self.hold_page(pass, name.page) {
+            Ok(heap) => heap,
+            Err(error) => {
+                drop(rows);
+                return Err(error);
+            }
+        };
         let new = match self.hold_new_page(pass) {
             Ok(new) => new,
             Err(error) => {
+                drop(rows);
                 self.give_back(pass, heap);
                 return Err(error);
             }

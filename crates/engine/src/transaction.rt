@@ -12,7 +12,7 @@ use disk_trait::Disk;
 use page_types::{Kind, Name};
 
 /// A transaction that runs: how many commits its snapshot has, and its xid.
-#[derive(Clone, Copy, Debug)]
+#[derive(Clone, Copy)]
 pub struct Transaction {
     pub snapshot: u32,
     pub xid: u32,

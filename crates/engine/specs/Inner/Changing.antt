@@ -48,6 +48,12 @@ pub record HasFields (page : Page) (name : Name) (fields : HeadFields) : Type 0 
   pub serial : head.serial ≡ name.serial
   pub head_is : head ≡ head_with fields head.vector
 
+-- the step leaves this page too, with these fields in the head that is in the slot
+pub record LeavesFields (number : ℕ) (page : Page) (slot : ℕ) (fields : HeadFields) (old step : Step) : Type 0 where
+  pub new : Page
+  pub changes : (h : Head) → head_on page slot ≡ Some h → ChangesSlot page slot (Some (head_with fields h.vector)) new
+  pub step_is : step ≡ record old { after = old.after ++ sheet number new ∷ [] }
+
 -- the head in the slot leads to this overflow page on the new page, and led to the other before
 pub record LeadsOn (page : Page) (slot part : ℕ) (new : Page) (next : ℕ) : Type 0 where
   pub head : Head

@@ -1,5 +1,5 @@
 -- Work on the index: how the frames go on, and what a cleanup is answered.
-use Rattle.std.specs.Prelude.{◌≡◌, ℕ, ◌≤◌, List, ⊤, None}
+use Rattle.std.specs.Prelude.{◌≡◌, ℕ, List, ⊤, None}
 use Rattle.std.specs.List.{AllByRecursion}
 use Rattle.disk_trait.specs.declared.device.Disk.{Ghosts as Disk}
 use Rattle.wal.specs.Waiting.{down_of}

@@ -1,6 +1,5 @@
 -- A cleanup, or a vacuum, by a pass that has the right of maintenance.
 use Rattle.std.proofs.Common.{◌≡◌, true, false, Bool, sym, subst, ◌∙◌}
-use Rattle.engine.specs.Vacuuming.{IsIndexKind}
 use Rattle.engine.specs.Inner.Vacuumed.{AreKindsOf, Ends}
 use Rattle.engine.proofs.Cleanups.{index_kinds, through_as}
 use Rattle.engine.proofs.ReadSteps.{if_err}

@@ -1,12 +1,10 @@
 -- Items leave the trees, and then the chains and slots of their documents go.
-use Rattle.std.proofs.Common.{[], ◌++◌, ◌∙◌, arith, sym, ap}
+use Rattle.std.proofs.Common.{◌++◌, ◌∙◌, arith}
 use Rattle.std.proofs.lemmas.Result.{err_from_is_err_and}
 use Rattle.gin_place.specs.Faults.{FaultBy}
-use Rattle.gin_place.specs.Placing.{HasRight}
 use Rattle.gin_place.specs.declared.error.PlaceError.{PlaceError}
 use Rattle.gin_place.proofs.Causing.{at_exit}
 use Rattle.gin_place.proofs.Faults.{fine_then, told_then}
-use Rattle.engine.specs.Vacuuming.{IsIndexKind}
 use Rattle.engine.specs.Inner.Cleaned.{NeverBad}
 use Rattle.engine.specs.Inner.Vacuumed.{EndsTaking}
 use Rattle.engine.proofs.Cleanups.{through_in_turn}

@@ -1,5 +1,5 @@
 -- Items without a linked row leave the trees, and then the chains and slots of their documents go.
-use Rattle.std.proofs.Common.{[], ◌++◌, ◌∙◌, arith, sym, ap, subst}
+use Rattle.std.proofs.Common.{[], ◌++◌, ◌∙◌, arith}
 use Rattle.std.proofs.lemmas.Result.{err_from_is_err_and}
 use Rattle.gin_place.specs.Faults.{FaultBy}
 use Rattle.gin_place.specs.declared.error.PlaceError.{PlaceError}

@@ -1,7 +1,6 @@
 -- What is dead is found, the list cleaned, and then what was dead taken out.
 use Rattle.std.proofs.Common.{◌≡◌, [], ◌++◌, ◌∙◌, sym, subst, append-nil, true, false}
 use Rattle.std.proofs.lemmas.Result.{err_from_is_err_and}
-use Rattle.std.specs.Prelude.{Ok, Err}
 use Rattle.gin_place.specs.Faults.{FaultBy}
 use Rattle.gin_place.specs.declared.error.PlaceError.{PlaceError}
 use Rattle.gin_place.proofs.Causing.{at_exit}
@@ -15,7 +14,7 @@ use Rattle.engine.proofs.AtWork.{at_works}
 use Rattle.engine.proofs.Stopped.{nothing_taken, vacuumed, find_cause, vacuum_cleaning, fine_full, comes_full}
 use Rattle.engine.proofs.Stopped.{full_ends, full_lawful}
 use Rattle.engine.proofs.Sweeping.{on_ok, never_by, never_before}
-use Rattle.engine.proofs.VacuumSteps.{right_found, whole_found, right_cleaned, whole_cleaned, heads_cleaned}
+use Rattle.engine.proofs.VacuumSteps.{right_found, right_cleaned, whole_cleaned, heads_cleaned}
 use Rattle.engine.proofs.VacuumSteps.{dead_cleaned}
 use Rattle.engine.proofs.VacuumSteps.{vacuumed_by, gone_by, full_by, ends_by_taking}
 use Rattle.engine.proofs.vacuuming.vacuum_list.Goals as goal

@@ -6,6 +6,9 @@ use Rattle.engine.proofs.Cleanups.{up_rises, up_as, moved_by, goes_up}
 use Rattle.engine.proofs.PinsRisen.{others_by}
 use Rattle.engine.proofs.db.Db.cleanup.Goals as goal
 
+pub returns-clause-cleaned : goal.returns-clause-cleaned
+returns-clause-cleaned g c = c.maintained-cleaned.ensures.answered
+
 pub returns-clause-others : goal.returns-clause-others
 returns-clause-others g c =
     let e = c.maintained-cleaned.ensures in
@@ -24,3 +27,6 @@ returns-clause-goes_on g c =
     goes_up g.D.Disk _ _ e.path.0 e.path.2
     (subst (λ (s : DbValue g.row.D.Denot). HasFlushed g.D.Disk s.frames.journal) c.self.view_is
     c.keeps_history.ensures.flushed)
+
+pub returns-clause-fault : goal.returns-clause-fault
+returns-clause-fault g c = c.maintained-cleaned.ensures.fault

@@ -6,6 +6,9 @@ use Rattle.engine.proofs.Growing.{goes_on_by}
 use Rattle.engine.proofs.PinsRisen.{others_stay, own_stays}
 use Rattle.engine.proofs.db.Db.delete.Goals as goal
 
+pub returns-clause-answered : goal.returns-clause-answered
+returns-clause-answered g c = c.take_away-deleted.ensures.answered
+
 pub returns-clause-session : goal.returns-clause-session
 returns-clause-session g c =
     own_stays g.D.Disk (c.take_away-deleted.ensures.path).1 c.args.pass.now _ c.requires.session
@@ -23,3 +26,6 @@ returns-clause-goes_on g c =
 
 pub returns-clause-lawful : goal.returns-clause-lawful
 returns-clause-lawful g c = c.take_away-deleted.ensures.lawful
+
+pub returns-clause-fault : goal.returns-clause-fault
+returns-clause-fault g c = c.take_away-deleted.ensures.fault

@@ -33,9 +33,9 @@ returns-in_err-head-clause-refused g c =
 
 pub returns-in_err-held-clause-running : goal.returns-in_err-held-clause-running
 returns-in_err-held-clause-running g c =
-    let h = c.choose_page.ensures in
-    running_still g.D.Disk c.args.self.now c.choose_page.new.self c.args.pass.now c.choose_page.new.pass c.args.work
-    c.requires.running h.pass c.in_err-held.ensures.still h.keeps h.carries
+    let h = c.choose_page-placed.ensures in
+    running_still g.D.Disk c.args.self.now c.choose_page-placed.new.self c.args.pass.now
+    c.choose_page-placed.new.pass c.args.work c.requires.running h.pass c.in_err-held.ensures.still h.keeps h.carries
 
 pub returns-in_err-held-clause-cause : goal.returns-in_err-held-clause-cause
 returns-in_err-held-clause-cause g c =
@@ -63,10 +63,10 @@ place_step-requires g c =
 
 pub log_one-requires : goal.log_one-requires
 log_one-requires g c =
-    let h = c.choose_page.ensures in
+    let h = c.choose_page-placed.ensures in
     let o = c.in_ok-held.ensures in
-    let m = c.choose_page.new.self in
-    let q = c.choose_page.new.pass in
+    let m = c.choose_page-placed.new.self in
+    let q = c.choose_page-placed.new.pass in
     let x = c.args.work.xid in
     let on : IsPlaced c.in_ok-held.field-0.held.content (head_for x c.args.bytes.now) c.in_ok-held.field-0.page
     c.in_ok-held.field-0.slot =
@@ -85,22 +85,22 @@ log_one-requires g c =
 
 pub returns-in_err-serial-in-Ok-clause-running : goal.returns-in_err-serial-in-Ok-clause-running
 returns-in_err-serial-in-Ok-clause-running g c =
-    let h = c.choose_page.ensures in
+    let h = c.choose_page-placed.ensures in
     let l = c.log_one.ensures in
     running_still g.D.Disk c.args.self.now c.log_one.new.self c.args.pass.now c.log_one.new.pass c.args.work
     c.requires.running l.pass l.none_held
-    (keeps_on c.args.pass.now c.choose_page.new.pass c.log_one.new.pass h.keeps l.keeps)
-    (carries_on g.D.Disk c.args.self.now c.choose_page.new.self c.log_one.new.self c.args.pass.now
-    c.choose_page.new.pass c.log_one.new.pass (h.keeps).xid h.carries c.in_err-serial-in-Ok.ensures.carries)
+    (keeps_on c.args.pass.now c.choose_page-placed.new.pass c.log_one.new.pass h.keeps l.keeps)
+    (carries_on g.D.Disk c.args.self.now c.choose_page-placed.new.self c.log_one.new.self c.args.pass.now
+    c.choose_page-placed.new.pass c.log_one.new.pass (h.keeps).xid h.carries c.in_err-serial-in-Ok.ensures.carries)
 
 pub returns-in_err-serial-in-Ok-clause-fault : goal.returns-in_err-serial-in-Ok-clause-fault
 returns-in_err-serial-in-Ok-clause-fault g c =
     let p =
     err_from_is_err_and c.from_residual-in_err-serial-in-Ok.result c.from_residual-in_err-serial-in-Ok.ensures.1 in
-    told_in_turn g.D.Disk c.args.self.now c.choose_page.new.self c.log_one.new.self
-    c.from_residual-in_err-serial-in-Ok.result (time_of g.D.Disk c.choose_page.ensures.goes)
+    told_in_turn g.D.Disk c.args.self.now c.choose_page-placed.new.self c.log_one.new.self
+    c.from_residual-in_err-serial-in-Ok.result (time_of g.D.Disk c.choose_page-placed.ensures.goes)
     c.in_ok-held.ensures.fault
-    (told_again g.D.Disk c.choose_page.new.self c.log_one.new.self _ c.log_one.result
+    (told_again g.D.Disk c.choose_page-placed.new.self c.log_one.new.self _ c.log_one.result
     c.from_residual-in_err-serial-in-Ok.result c.in_err-serial-in-Ok.was (p.1 ∙ ap Err p.2) c.log_one.ensures.fault)
 
 pub returns-in_err-serial-in-Ok-clause-refused : goal.returns-in_err-serial-in-Ok-clause-refused
@@ -108,14 +108,14 @@ returns-in_err-serial-in-Ok-clause-refused g c =
     let p =
     err_from_is_err_and c.from_residual-in_err-serial-in-Ok.result c.from_residual-in_err-serial-in-Ok.ensures.1 in
     subst (λ (r : Result Name DbError). OnErr r (Goes g.D.Disk c.args.self.now c.log_one.new.self [])) (sym p.1)
-    (goes_still g.D.Disk c.choose_page.ensures.goes c.in_err-serial-in-Ok.ensures.refused)
+    (goes_still g.D.Disk c.choose_page-placed.ensures.goes c.in_err-serial-in-Ok.ensures.refused)
 
 pub returns-in_err-serial-in-Ok-clause-cause : goal.returns-in_err-serial-in-Ok-clause-cause
 returns-in_err-serial-in-Ok-clause-cause g c =
     let p =
     err_from_is_err_and c.from_residual-in_err-serial-in-Ok.result c.from_residual-in_err-serial-in-Ok.ensures.1 in
     let a : DbValue g.row.D.Denot = c.args.self.now in
-    let m = c.choose_page.new.self in
+    let m = c.choose_page-placed.new.self in
     let x = c.args.work.xid in
     let bytes = c.args.bytes.now in
     let serial = (state_then m).next_serial in
@@ -127,36 +127,36 @@ returns-in_err-serial-in-Ok-clause-cause g c =
     c.in_ok-held.ensures.is_page refl) in
     subst (λ (r : Result Name DbError). IfErr r (CannotPlace g.D.Disk a x bytes)) (sym p.1)
     (subst (CannotPlace g.D.Disk a x bytes) (sym p.2)
-    (place_cause g.D.Disk a x bytes m d next _ c.choose_page.ensures.goes (c.in_ok-held.ensures.fault).down is
+    (place_cause g.D.Disk a x bytes m d next _ c.choose_page-placed.ensures.goes (c.in_ok-held.ensures.fault).down is
     c.in_err-serial-in-Ok.ensures.cause))
 
 pub returns-in_err-serial-in-Ok-clause-lawful : goal.returns-in_err-serial-in-Ok-clause-lawful
 returns-in_err-serial-in-Ok-clause-lawful g c =
     let p =
     err_from_is_err_and c.from_residual-in_err-serial-in-Ok.result c.from_residual-in_err-serial-in-Ok.ensures.1 in
-    let m = c.choose_page.new.self in
+    let m = c.choose_page-placed.new.self in
     subst (λ (r : Result Name DbError). IfErr r (MeetsNoBadPage g.D.Disk c.args.self.now)) (sym p.1)
     (subst (MeetsNoBadPage g.D.Disk c.args.self.now) (sym p.2)
     (log_lawful g.D.Disk c.args.self.now m
     (next_record m.frames.journal c.in-Ok.step) _ c.in_err-serial-in-Ok.ensures.cause))
 
-pub returns-in-Ok-clause-running : goal.returns-in-Ok-clause-running
-returns-in-Ok-clause-running g c =
-    let h = c.choose_page.ensures in
+pub returns-in_ok-serial-in-Ok-clause-running : goal.returns-in_ok-serial-in-Ok-clause-running
+returns-in_ok-serial-in-Ok-clause-running g c =
+    let h = c.choose_page-placed.ensures in
     let l = c.log_one.ensures in
     let x = c.args.work.xid in
     let runs = (h.carries).runs x (c.requires.running).xid (c.requires.running).runs in
     running_on g.D.Disk c.args.self.now c.log_one.new.self c.args.pass.now c.log_one.new.pass c.args.work
     c.requires.running l.pass l.none_held
-    (keeps_on c.args.pass.now c.choose_page.new.pass c.log_one.new.pass h.keeps l.keeps)
-    (runs_after g.D.Disk c.choose_page.new.self c.log_one.new.self c.choose_page.new.pass c.log_one.new.pass
-    (c.in_ok-held.field-0.held ∷ []) c.in-Ok.step c.in_ok-serial-in-Ok.ensures.logged h.pass l.pass x
+    (keeps_on c.args.pass.now c.choose_page-placed.new.pass c.log_one.new.pass h.keeps l.keeps)
+    (runs_after g.D.Disk c.choose_page-placed.new.self c.log_one.new.self c.choose_page-placed.new.pass
+    c.log_one.new.pass (c.in_ok-held.field-0.held ∷ []) c.in-Ok.step c.in_ok-serial-in-Ok.ensures.logged h.pass l.pass x
     ((h.keeps).xid ∙ (c.requires.running).xid)
     (subst (λ (s : Step). ChangesDocument s.kind) (sym c.in-Ok.ensures) tt) runs)
 
-pub returns-in-Ok-clause-goes : goal.returns-in-Ok-clause-goes
-returns-in-Ok-clause-goes g c =
-    let m = c.choose_page.new.self in
+pub returns-in_ok-serial-in-Ok-clause-goes : goal.returns-in_ok-serial-in-Ok-clause-goes
+returns-in_ok-serial-in-Ok-clause-goes g c =
+    let m = c.choose_page-placed.new.self in
     let x = c.args.work.xid in
     let name : Name = record {
       page = c.number-number.result;
@@ -170,15 +170,16 @@ returns-in-Ok-clause-goes g c =
       subst (λ (s : Step). IsPlaceOf x (doc_of name) (next_record m.frames.journal s)) (sym c.in-Ok.ensures)
           (places_it g.D.Disk c.args.self.now x c.args.bytes.now m name.page name.slot name.serial
           c.in_ok-held.field-0.page c.in_ok-held.ensures.is_page drawn),
-      goes_on g.D.Disk c.choose_page.ensures.goes (one_record g.D.Disk (c.in_ok-serial-in-Ok.ensures.logged).one),
+      goes_on g.D.Disk c.choose_page-placed.ensures.goes
+          (one_record g.D.Disk (c.in_ok-serial-in-Ok.ensures.logged).one),
     )
 
-pub returns-in-Ok-clause-placed : goal.returns-in-Ok-clause-placed
-returns-in-Ok-clause-placed g c = λ w none changed.
-    let h = c.choose_page.ensures in
+pub returns-in_ok-serial-in-Ok-clause-placed : goal.returns-in_ok-serial-in-Ok-clause-placed
+returns-in_ok-serial-in-Ok-clause-placed g c = λ w none changed.
+    let h = c.choose_page-placed.ensures in
     let o = c.in_ok-held.ensures in
-    let m = c.choose_page.new.self in
-    let q = c.choose_page.new.pass in
+    let m = c.choose_page-placed.new.self in
+    let q = c.choose_page-placed.new.pass in
     let x = c.args.work.xid in
     let held = c.in_ok-held.field-0.held in
     let name : Name = record {
@@ -204,21 +205,22 @@ returns-in-Ok-clause-placed g c = λ w none changed.
     h.pass c.log_one.ensures.pass w ((h.keeps).xid ∙ (c.requires.running).xid) on none
     ((h.carries).changed x w (c.requires.running).xid changed))
 
-pub returns-clause-running : goal.returns-clause-running
-returns-clause-running g c =
+pub returns-in-Err-clause-running : goal.returns-in-Err-clause-running
+returns-in-Err-clause-running g c =
     let i : DbValue g.row.D.Denot = record { frames = c.self-2.inside.frames; pending = c.self-2.inside.pending } in
     let e : DbValue g.row.D.Denot = record { frames = c.release.new.self; pending = c.self-2.inside.pending } in
-    let h = c.choose_page.ensures in
+    let h = c.choose_page-placed.ensures in
     let f = c.release.ensures in
-    running_back g.D.Disk c.args.self.now c.choose_page.new.self i e c.args.pass.now c.choose_page.new.pass
-    c.release.new.pass c.args.work c.in_ok-held.field-0.held c.self-2.view_is c.requires.running h.carries h.keeps
+    running_back g.D.Disk c.args.self.now c.choose_page-placed.new.self i e c.args.pass.now
+    c.choose_page-placed.new.pass c.release.new.pass c.args.work c.in_ok-held.field-0.held
+    c.self-2.view_is c.requires.running h.carries h.keeps
     c.in_ok-held.ensures.holding f.pass f.holding f.sees_on f.added f.rises f.same
 
-pub returns-clause-refused : goal.returns-clause-refused
-returns-clause-refused g c =
+pub returns-in-Err-clause-refused : goal.returns-in-Err-clause-refused
+returns-in-Err-clause-refused g c =
     let i : DbValue g.row.D.Denot = record { frames = c.self-2.inside.frames; pending = c.self-2.inside.pending } in
     let e : DbValue g.row.D.Denot = record { frames = c.release.new.self; pending = c.self-2.inside.pending } in
     let f = c.release.ensures in
-    goes_still g.D.Disk c.choose_page.ensures.goes
+    goes_still g.D.Disk c.choose_page-placed.ensures.goes
     (subst (λ (s : DbValue g.row.D.Denot). Goes g.D.Disk s e []) c.self-2.view_is
     (one_nothing g.D.Disk (calm_step g.D.Disk i e refl f.added f.state f.runs_on f.begins f.calm f.pins)))

@@ -7,20 +7,26 @@ use Rattle.engine.proofs.Searching.{only_reads}
 use Rattle.engine.proofs.PinsRisen.{others_stay, own_stays}
 use Rattle.engine.proofs.db.Db.search.Goals as goal
 
+pub returns-clause-found : goal.returns-clause-found
+returns-clause-found g c = c.search_now-names.ensures.found
+
 pub returns-clause-session : goal.returns-clause-session
 returns-clause-session g c =
-    own_stays g.D.Disk c.search_now-found.ensures.path c.args.pass.now _ c.requires.session
-    c.search_now-found.ensures.session
+    own_stays g.D.Disk c.search_now-names.ensures.path c.args.pass.now _ c.requires.session
+    c.search_now-names.ensures.session
 
 pub returns-clause-others : goal.returns-clause-others
 returns-clause-others g c =
-    others_stay g.D.Disk c.search_now-found.ensures.path _ c.search_now-found.ensures.session
+    others_stay g.D.Disk c.search_now-names.ensures.path _ c.search_now-names.ensures.session
 
 pub returns-clause-reads : goal.returns-clause-reads
-returns-clause-reads g c = only_reads g.D.Disk _ _ c.search_now-found.ensures.path
+returns-clause-reads g c = only_reads g.D.Disk _ _ c.search_now-names.ensures.path
 
 pub returns-clause-goes_on : goal.returns-clause-goes_on
 returns-clause-goes_on g c =
-    goes_on_by g.D.Disk c.search_now-found.ensures.path
+    goes_on_by g.D.Disk c.search_now-names.ensures.path
     (subst (λ (s : DbValue g.row.D.Denot). HasFlushed g.D.Disk s.frames.journal) c.self.view_is
     c.keeps_history.ensures.flushed)
+
+pub returns-clause-fault : goal.returns-clause-fault
+returns-clause-fault g c = c.search_now-names.ensures.fault

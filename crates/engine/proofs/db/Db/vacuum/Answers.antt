@@ -1,6 +1,5 @@
 -- What is dead is taken out.
 use Rattle.std.proofs.Common.{sym, subst, ◌∙◌}
-use Rattle.snap_pins.specs.Taken.{IsPinned}
 use Rattle.buffer_frames.specs.Beginnings.{HasFlushed}
 use Rattle.engine.specs.Db.{DbValue}
 use Rattle.engine.specs.Vacuuming.{IsVacuum}
