@@ -39,7 +39,8 @@ use Rattle.shell_run.specs.Inner.Answering.{HasAnswered}
 use Rattle.shell_run.proofs.OfTexts.{expr_text, query_text_reply, shown_text, queried_text, parsed_text, defined_text}
 use Rattle.shell_run.proofs.OfTexts.{line_text}
 use Rattle.shell_run.proofs.Moving.{Moves, HasNote, Tells, own_is, none_is, work_up, read_up, clean_up as up_or_down}
-use Rattle.shell_run.proofs.Moving.{vacuum_up, refuses_of, IsFaultOf, still_reaches, was_up, rested_at, rests_moves, err_moves}
+use Rattle.shell_run.proofs.Moving.{vacuum_up, refuses_of, IsFaultOf, still_reaches, was_up, rested_at, rests_moves}
+use Rattle.shell_run.proofs.Moving.{err_moves}
 use Rattle.shell_run.proofs.Rows.{work_row, name_row, name_seen, search_row, search_done, clean_row, list_row}
 use Rattle.shell_run.proofs.Rows.{vacuum_row, list_done}
 
