@@ -24,7 +24,7 @@ pub(crate) struct Follower {
 }
 
 /// The state of a log without records.
-fn empty(alloc: Global) -> State {
+pub(crate) fn empty(alloc: Global) -> State {
     State::new(alloc, PAGES, XID_BOUND)
 }
 
@@ -62,10 +62,11 @@ fn step(state: &mut State, record: &mut Record, xid: u32, kind: Kind) -> Result<
 impl Follower {
     /// The state of a log without records.
     pub(crate) fn new(alloc: Global) -> Result<Follower, AllocError> {
+        let placing = record_on(alloc, 2, 2, &[])?;
         Ok(Follower {
             state: empty(alloc),
             bare: record(Changes::new(alloc)),
-            placing: record_on(alloc, 2, 2, &[])?,
+            placing,
         })
     }
 
@@ -130,53 +131,34 @@ pub(crate) fn follow_runners(follower: &mut Follower, count: u32) -> Result<(), 
     follower.turn(0, Kind::Abort)
 }
 
-/// The state goes on by a record that deletes a page.
-fn delete_page(alloc: Global, state: &mut State, page: u32) -> Result<(), AllocError> {
-    let mut record = record_on(alloc, page, 9, &[])?;
-    step(state, &mut record, 0, Kind::Shift)
+/// The state goes on by a record of this kind, and of no transaction, that gives a page this first byte and puts bytes
+/// there.
+fn step_on(
+    alloc: Global,
+    state: &mut State,
+    page: u32,
+    first: u8,
+    bytes: &[u8],
+    kind: Kind,
+) -> Result<(), AllocError> {
+    let mut record = record_on(alloc, page, first, bytes)?;
+    step(state, &mut record, 0, kind)
 }
 
 /// The state goes on by records that delete so many pages, the last page first.
-fn delete_pages(alloc: Global, state: &mut State, pages: u32) -> Result<(), AllocError> {
+pub(crate) fn delete_pages(alloc: Global, state: &mut State, pages: u32) -> Result<(), AllocError> {
     for n in 0..pages {
-        delete_page(alloc, state, pages.wrapping_sub(n))?;
+        step_on(alloc, state, pages.wrapping_sub(n), 9, &[], Kind::Shift)?;
     }
     Ok(())
 }
 
-/// A state of a log whose records delete so many pages.
-pub(crate) fn deleted_pages(alloc: Global, pages: u32) -> Result<State, AllocError> {
-    let mut state = empty(alloc);
-    delete_pages(alloc, &mut state, pages)?;
-    Ok(state)
-}
-
-/// The state goes on by a record that fills a heap page with bytes and frees a slot of it.
-fn fill_page(alloc: Global, state: &mut State, page: u32, bytes: &[u8]) -> Result<(), AllocError> {
-    let mut record = record_on(alloc, page, 2, bytes)?;
-    step(state, &mut record, 0, Kind::FreeSlots)
-}
-
-/// The state goes on by records that fill so many heap pages, and leave the one after them empty.
-fn fill_pages(alloc: Global, state: &mut State, pages: u32, body: &[u8]) -> Result<(), AllocError> {
-    for n in 0..pages {
-        fill_page(alloc, state, n.wrapping_add(2), body)?;
+/// The state goes on by records that free slots of so many heap pages, which fill all of them but the last one.
+pub(crate) fn fill_pages(alloc: Global, state: &mut State, pages: u32) -> Result<(), AllocError> {
+    let body = vec![in alloc; 0u8; FULL]?;
+    let last = pages.saturating_add(1);
+    for page in 2..last {
+        step_on(alloc, state, page, 2, &body, Kind::FreeSlots)?;
     }
-    fill_page(alloc, state, pages.wrapping_add(2), &[])
-}
-
-/// A body without room.
-fn full_body(alloc: Global) -> Result<Vec<u8>, AllocError> {
-    let mut body = Vec::new(alloc);
-    body.resize(FULL, 0)?;
-    Ok(body)
-}
-
-/// A state of a log whose records free slots of so many heap pages, all of them full but for the
-/// last one.
-pub(crate) fn full_pages(alloc: Global, pages: u32) -> Result<State, AllocError> {
-    let body = full_body(alloc)?;
-    let mut state = empty(alloc);
-    fill_pages(alloc, &mut state, pages.saturating_sub(1), &body)?;
-    Ok(state)
+    step_on(alloc, state, last, 2, &[], Kind::FreeSlots)
 }

@@ -1,5 +1,5 @@
 // Looks at a state, made again and again: the sum of what they find.
-use crate::logs::{ITEM, deleted_pages, full_pages};
+use crate::logs::{ITEM, delete_pages, empty, fill_pages};
 use anyhow::Result;
 use bench_base::{Bench, Figure};
 use core_state::{Fate, PageUse, State};
@@ -163,8 +163,7 @@ pub(crate) fn look(bench: &Bench<'_>, state: &State, what: &str, count: u32) -> 
     let (name, _) = what.split_once(' ').unwrap_or((what, ""));
     let start = bench.start()?;
     let sum = sum_of(state, name, count);
-    let seconds = bench.since(start)?;
-    bench.tell(sum, what, seconds, Figure::Each(count))
+    bench.report(start, sum as usize, what, Figure::Each(count))
 }
 
 /// Makes each look of a list.
@@ -180,14 +179,30 @@ pub(crate) fn look_at_all(bench: &Bench<'_>, state: &State, count: u32) -> Resul
     look_at_each(bench, state, LOOKS, count)
 }
 
+/// The same, after so many pages are deleted in a state.
+fn find_deleted(bench: &Bench<'_>, state: &mut State, pages: u32) -> Result<()> {
+    delete_pages(bench.alloc(), state, pages)?;
+    look(bench, state, "reusable pages", pages)
+}
+
 /// Looks for pages to use again among so many deleted ones, of which at first all are held back.
 pub(crate) fn look_for_pages(bench: &Bench<'_>, pages: u32) -> Result<()> {
-    let state = deleted_pages(bench.alloc(), pages)?;
-    look(bench, &state, "reusable pages", pages)
+    let mut state = empty(bench.alloc());
+    let found = find_deleted(bench, &mut state, pages);
+    drop(state);
+    found
+}
+
+/// Looks in a state for pages with room for a head, after so many are full but for the last one.
+fn find_room(bench: &Bench<'_>, state: &mut State, pages: u32) -> Result<()> {
+    fill_pages(bench.alloc(), state, pages)?;
+    look(bench, state, "room on pages", pages)
 }
 
 /// Looks for pages with room for a head among so many full ones.
 pub(crate) fn look_for_room(bench: &Bench<'_>, pages: u32) -> Result<()> {
-    let state = full_pages(bench.alloc(), pages)?;
-    look(bench, &state, "room on pages", pages)
+    let mut state = empty(bench.alloc());
+    let found = find_room(bench, &mut state, pages);
+    drop(state);
+    found
 }

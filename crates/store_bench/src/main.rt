@@ -8,6 +8,7 @@
 //! takes. With `pages`, `documents` or `runners` it does that part alone.
 #![tactic(auto)]
 
+mod class;
 mod logs;
 mod looks;
 mod pages;
@@ -28,12 +29,11 @@ const MANY: u32 = 1_000_000;
 fn follow_first(bench: &Bench<'_>, follower: &mut Follower, count: u32) -> Result<()> {
     let start = bench.start()?;
     follow_documents(follower, count)?;
-    let seconds = bench.since(start)?;
-    let records = follower.state.length();
-    bench.tell(
+    let records = follower.state.length() as usize;
+    bench.report(
+        start,
         records,
         "records of documents one by one",
-        seconds,
         Figure::Whole,
     )?;
     look(bench, &follower.state, "living documents", count)?;
@@ -46,31 +46,32 @@ fn follow_first(bench: &Bench<'_>, follower: &mut Follower, count: u32) -> Resul
 /// The first log, from nothing.
 fn run_documents(bench: &Bench<'_>, count: u32) -> Result<()> {
     let mut follower = Follower::new(bench.alloc())?;
-    follow_first(bench, &mut follower, count)
+    let followed = follow_first(bench, &mut follower, count);
+    drop(follower);
+    followed
 }
 
 /// Follows the second log.
 fn follow_second(bench: &Bench<'_>, follower: &mut Follower, count: u32) -> Result<()> {
     let start = bench.start()?;
     follow_runners(follower, count)?;
-    let seconds = bench.since(start)?;
-    let records = follower.state.length();
-    bench.tell(
+    let records = follower.state.length() as usize;
+    bench.report(
+        start,
         records,
         "records of documents beside each other",
-        seconds,
         Figure::Whole,
     )?;
-    bench.count(
-        u64::from(follower.state.commits()),
-        "of these documents are committed",
-    )
+    let commits = u64::from(follower.state.commits());
+    bench.count(commits, "of these documents are committed")
 }
 
 /// The second log, from nothing.
 fn run_runners(bench: &Bench<'_>, count: u32) -> Result<()> {
     let mut follower = Follower::new(bench.alloc())?;
-    follow_second(bench, &mut follower, count)
+    let followed = follow_second(bench, &mut follower, count);
+    drop(follower);
+    followed
 }
 
 /// The whole program.

@@ -6,13 +6,13 @@ ghost use Rattle.page_types.specs.Pages.{IsPage};
 ghost use Rattle.page_types.specs.Views.{entries_in};
 ghost use Rattle.entry_tree.specs.Adding.{IsEntryLeaf, list_entry};
 
+use crate::class::{KeyClass, key_class};
 use anyhow::Result;
 use bench_base::{Bench, Figure, numbered};
 use entry_tree::{Added, Found, add, find};
 use page_code::{PageError, decode_page, encode_page};
 use page_types::{Body, PAGE_BYTES, Page, PostingsRef};
 use std::alloc::{AllocError, Global};
-use ts_match::text_class;
 
 /// How often each page is coded.
 const ROUNDS: u32 = 1000;
@@ -77,9 +77,20 @@ fn members(page: &Page) -> usize {
 fn read_often(alloc: Global, bytes: &[u8]) -> Result<usize, PageError> {
     let mut found = 0;
     for _ in 0..ROUNDS {
-        found = members(&decode_page(alloc, bytes)?);
+        let page = decode_page(alloc, bytes)?;
+        found = members(&page);
+        drop(page);
     }
     Ok(found)
+}
+
+/// How many of the bytes are other than 0.
+fn above_zero(bytes: &[u8]) -> usize {
+    let mut count = 0usize;
+    for byte in bytes {
+        count = count.saturating_add(usize::from(*byte != 0));
+    }
+    count
 }
 
 /// Writes the page again and again over the bytes, and says how many of them are other than 0.
@@ -90,7 +101,7 @@ fn write_often(page: &Page, bytes: &mut [u8]) -> usize
     for _ in 0..ROUNDS {
         encode_page(page, bytes);
     }
-    bytes.iter().filter(|byte| **byte != 0).count()
+    above_zero(bytes)
 }
 
 /// Reads the page again and again.
@@ -100,14 +111,23 @@ fn read_page(bench: &Bench<'_>, what: &str, bytes: &[u8]) -> Result<()> {
     bench.report(start, found, what, Figure::Each(ROUNDS))
 }
 
-/// Writes the page again and again.
-fn write_page(bench: &Bench<'_>, bytes: &[u8]) -> Result<()> {
-    let page = decode_page(bench.alloc(), bytes)?;
-    let mut out = Vec::new(bench.alloc());
-    out.resize(PAGE_BYTES, 0)?;
+/// Writes the page again and again over the bytes.
+fn write_over(bench: &Bench<'_>, page: &Page, bytes: &mut [u8]) -> Result<()>
+    requires page { IsPage page.now }
+    requires size { length bytes.old ≡ PAGE_BYTES }
+{
     let start = bench.start()?;
-    let found = write_often(&page, &mut out);
+    let found = write_often(page, bytes);
     bench.report(start, found, "bytes above 0 written", Figure::Each(ROUNDS))
+}
+
+/// Writes the page of these bytes again and again.
+fn write_page(bench: &Bench<'_>, bytes: &[u8]) -> Result<()> {
+    let mut out = vec![in bench.alloc(); 0u8; PAGE_BYTES]?;
+    let page = decode_page(bench.alloc(), bytes)?;
+    let written = write_over(bench, &page, &mut out);
+    drop(page);
+    written
 }
 
 /// Reads and writes a page.
@@ -134,67 +154,89 @@ fn key_at(page: &Page, k: usize) -> Option<&[u8]>
 }
 
 /// Whether the key of this entry is found at its place.
-fn is_found(page: &Page, k: usize) -> bool
+fn is_found(page: &Page, class: &KeyClass, k: usize) -> bool
     requires { IsPage page.now }
 {
     match key_at(page, k) {
-        Some(key) => find(page, &text_class(), key) == Found::Here { place: k },
+        Some(key) => find(page, class, key) == Found::Here { place: k },
         None => false,
     }
 }
 
 /// Whether an item more has room under the key of this entry.
-fn takes_item(alloc: Global, page: &Page, k: usize) -> Result<bool, AllocError>
+fn takes_item(alloc: Global, page: &Page, class: &KeyClass, k: usize) -> Result<bool, AllocError>
     requires { IsPage page.now }
 {
     let Some(key) = key_at(page, k) else {
         return Ok(false);
     };
-    let added = add(alloc, page, &text_class(), key, &[ITEM])?;
-    Ok(matches!(added, Added::Done(_)))
+    let added = add(alloc, page, class, key, &[ITEM])?;
+    let takes = matches!(added, Added::Done(_));
+    drop(added);
+    Ok(takes)
 }
 
 /// Seeks the keys of a leaf in turn, and says how often one is found.
-fn find_keys(page: &Page) -> usize
+fn find_keys(page: &Page, class: &KeyClass) -> usize
     requires { IsPage page.now }
 {
     let mut found = 0usize;
     for time in 0..TIMES {
-        found = found.saturating_add(usize::from(is_found(page, (time % KEYS) as usize)));
+        let is_found = is_found(page, class, (time % KEYS) as usize);
+        found = found.saturating_add(usize::from(is_found));
     }
     found
 }
 
 /// Adds an item under the keys of a leaf in turn, and says how often it has room.
-fn add_items(alloc: Global, page: &Page) -> Result<usize, AllocError>
+fn add_items(alloc: Global, page: &Page, class: &KeyClass) -> Result<usize, AllocError>
     requires { IsPage page.now }
 {
     let mut added = 0usize;
     for time in 0..TIMES {
-        let takes = takes_item(alloc, page, (time % KEYS) as usize)?;
+        let takes = takes_item(alloc, page, class, (time % KEYS) as usize)?;
         added = added.saturating_add(usize::from(takes));
     }
     Ok(added)
 }
 
 /// Seeks the keys of a leaf, and adds an item under each.
-fn use_leaf(bench: &Bench<'_>, entries: &str) -> Result<()> {
-    let page = decode_page(bench.alloc(), &page_bytes(bench.alloc(), LEAF, entries)?)?;
+fn use_page(bench: &Bench<'_>, page: &Page, class: &KeyClass) -> Result<()>
+    requires { IsPage page.now }
+{
     let start = bench.start()?;
-    let found = find_keys(&page);
+    let found = find_keys(page, class);
     bench.report(start, found, "keys found on a leaf", Figure::Each(TIMES))?;
     let start = bench.start()?;
-    let added = add_items(bench.alloc(), &page)?;
+    let added = add_items(bench.alloc(), page, class)?;
     bench.report(start, added, "items added on it", Figure::Each(TIMES))
+}
+
+/// The same of a leaf with this body.
+fn use_leaf(bench: &Bench<'_>, body: &str) -> Result<()> {
+    let bytes = page_bytes(bench.alloc(), LEAF, body)?;
+    let page = decode_page(bench.alloc(), &bytes)?;
+    let used = use_page(bench, &page, &key_class());
+    drop(page);
+    used
+}
+
+/// Reads and writes a page with this front, on which a piece is so many times.
+fn code_pieces(bench: &Bench<'_>, what: &str, front: &[u8], piece: &str, times: u32) -> Result<()> {
+    let body = numbered(bench.alloc(), piece, times)?;
+    code_page(bench, what, front, &body)
+}
+
+/// Reads and writes a leaf, and uses it.
+fn code_leaf(bench: &Bench<'_>) -> Result<()> {
+    let body = leaf_body(bench.alloc())?;
+    code_page(bench, "keys of a leaf", LEAF, &body)?;
+    use_leaf(bench, &body)
 }
 
 /// Reads and writes a heap page, a leaf and a pending page.
 pub(crate) fn code_pages(bench: &Bench<'_>) -> Result<()> {
-    let slots = numbered(bench.alloc(), SLOT, 204)?;
-    code_page(bench, "heads of a heap page", HEAP, &slots)?;
-    let entries = leaf_body(bench.alloc())?;
-    code_page(bench, "keys of a leaf", LEAF, &entries)?;
-    use_leaf(bench, &entries)?;
-    let rows = numbered(bench.alloc(), ROW, 30)?;
-    code_page(bench, "rows of a pending page", PENDING, &rows)
+    code_pieces(bench, "heads of a heap page", HEAP, SLOT, 204)?;
+    code_leaf(bench)?;
+    code_pieces(bench, "rows of a pending page", PENDING, ROW, 30)
 }

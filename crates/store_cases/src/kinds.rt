@@ -23,13 +23,15 @@ pub(crate) enum Kind {
     RecordFault,
     /// Bytes, and the items of their list.
     Items,
+    /// Dead items, a list, and what is left of it.
+    Left,
     /// A list, the steps that change it, and what it then says.
     List,
     /// A change of a page's bytes.
     Change,
     /// A change of a heap page, or a look at it.
     Head,
-    /// A change of a page of a posting tree, or a look at it.
+    /// A change of a page of a tree, or a look at it.
     Tree,
 }
 
@@ -43,6 +45,7 @@ fn holds(alloc: Global, kind: Kind, row: &str) -> Result<bool, AllocError> {
         Kind::RecordAlone => record_tests::is_refused_cut(alloc, row),
         Kind::RecordFault => record_tests::is_refused_there(alloc, row),
         Kind::Items => item_tests::is_list(alloc, row),
+        Kind::Left => item_tests::is_left(alloc, row),
         Kind::List => list_tests::holds(alloc, row),
         Kind::Change => change_tests::is_made(alloc, row),
         Kind::Head => heap_tests::holds(alloc, row),

@@ -1,6 +1,6 @@
 //! Cases of the device in memory, of the log, of pages in memory over their journal, of pages, records and item lists,
-//! of the state of a log, of heads, new pages and snapshots, of pages of posting trees, and of leaves of which a key
-//! comes to lead to one, by their public calls.
+//! of the state of a log, of heads, new pages and snapshots, of pages of the entry tree and of posting trees, and of
+//! lists and leaves without dead items, by their public calls.
 //!
 //! Cases are rows of text that one reader runs, for each kind of row, since a row costs nothing in proof and a
 //! function much. Tests are in a crate of their own, since a crate with tests is proved twice.
@@ -10,6 +10,10 @@
 mod change_tests;
 #[cfg(test)]
 mod device_tests;
+#[cfg(test)]
+mod entry_rows;
+#[cfg(test)]
+mod entry_tests;
 #[cfg(test)]
 mod frames_tests;
 #[cfg(test)]

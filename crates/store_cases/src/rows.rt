@@ -46,9 +46,22 @@ pub(crate) fn numbers(alloc: Global, words: &str) -> Result<Vec<u64>, AllocError
     Ok(all)
 }
 
+/// Appends each number from one up to another twice, in four bytes: the page and the bound of a child.
+fn put_children(out: &mut Vec<u8>, first: u32, last: u32) -> Result<(), AllocError> {
+    for number in first..=last {
+        out.extend_from_slice(&number.to_le_bytes())?;
+        out.extend_from_slice(&number.to_le_bytes())?;
+    }
+    Ok(())
+}
+
 /// Appends the bytes that a word stands for: two digits a byte, or a byte and how many times it is
-/// there. Other words stand for none, so that their row fails.
+/// there; or children, as `1..9`, whose pages and bounds are these numbers. Other words stand for none, so that their
+/// row fails.
 fn put_word(out: &mut Vec<u8>, word: &str) -> Result<(), AllocError> {
+    if let Some((first, last)) = word.split_once("..") {
+        return put_children(out, number(first), number(last));
+    }
     let (digits, times) = word.split_once('*').unwrap_or((word, "1"));
     let bytes = match hex::decode(*out.allocator(), digits) {
         Ok(bytes) => bytes,

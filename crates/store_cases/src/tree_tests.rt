@@ -1,5 +1,5 @@
 // Pages of posting trees: items sought, leaves made, filled and split, roots that grow, parents that take a new page or
-// lose one; and leaves of the entry tree of which an entry comes to lead to such a tree.
+// lose one; leaves of the entry tree of which an entry comes to lead to such a tree; and leaves without dead items.
 ghost use Rattle.std.specs.Prelude.{◌≡◌, ◌≤◌, IsTrue};
 ghost use Rattle.page_types.specs.Encoding.{count_of};
 ghost use Rattle.page_types.specs.Pages.{IsPage};
@@ -8,15 +8,18 @@ ghost use Rattle.entry_tree.specs.Rooting.{HasListAt};
 ghost use Rattle.posting_tree.specs.Adding.{IsPostLeaf};
 ghost use Rattle.posting_tree.specs.Reading.{IsPostBody};
 
+use crate::entry_rows::{ADOPTED, FILLED, FOUND, GROWN, LEFT, SPLIT};
+use crate::entry_tests;
 use crate::heap_tests::has_bytes;
+use crate::item_tests::items_in;
 use crate::kinds::{Kind, try_rows};
 use crate::page_tests::page_in;
 use crate::rows::{bytes_of, cut, number, page_with, word};
 use entry_tree::root_at;
 use page_types::{Body, ITEM_LIMIT, MOST_INLINE_BYTES, Page, PostingsRef};
-use posting_code::{Items, Keep};
+use posting_code::{ItemSet, Items, Keep};
 use posting_tree::{
-    Added, add, adopt, find, first_child, grow, has_room, leaf, split, unlink, upper,
+    Added, add, adopt, find, first_child, grow, has_room, leaf, remove, split, unlink, upper,
 };
 use std::alloc::{AllocError, Global};
 use std::test::Fail;
@@ -29,6 +32,10 @@ use std::test::Fail;
 ///
 /// Six such leaves are full, or nearly: in four the first list has no bytes, one, two and three; in two more it has
 /// none, and the body has two bytes less, and one.
+///
+/// A child has 8 bytes: 1020 of them have 8160 of the 8168 that a body may have, and leave room for one; 1021 have all.
+/// Where there are so many, their pages are the numbers from 1 or 2 on, and so are their bounds, as far as they have
+/// one. More than half of 1021 are 511.
 const TREES: &str = "\
     find 2 | 07 00 0300 00*4 00*8 0700 00*6 00*4 010101 | Here
     find 4 | 07 00 0300 00*4 00*8 0700 00*6 00*4 010101 | Absent
@@ -51,6 +58,12 @@ const TREES: &str = "\
     tell | 07 00 0300 09 00*3 00*8 0700 00*6 05 00*3 010101 | None 5 true
     tell | 07 00 dc1f 00*4 00*8 e01f 00*6 00*4 01*8156 | None 0 true
     tell | 07 00 dd1f 00*4 00*8 e11f 00*6 00*4 01*8157 | None 0 false
+    tell | 08 00 fc03 00*4 00*8 e01f 00*6 1..1019 fc03 00*2 ffffffff | Some(1) 4294967295 true
+    tell | 08 00 fd03 00*4 00*8 e81f 00*6 1..1020 fd03 00*2 ffffffff | Some(1) 4294967295 false
+    tell | 08 00 fc03 0b 00*3 00*8 e01f 00*6 2..1021 | Some(2) 1021 true
+    tell | 08 00 fd03 0b 00*3 00*8 e81f 00*6 1..1021 | Some(1) 1021 false
+    find 1000 | 08 00 fd03 0b 00*3 00*8 e81f 00*6 1..1021 | Down { child: 1000 }
+    find 1022 | 08 00 fd03 0b 00*3 00*8 e81f 00*6 1..1021 | Right { page: 11 }
     leaf 010101 | 00 | 07 00 0300 00*4 00*8 0700 00*6 00*4 010101
     leaf 8020 | 00 | 07 00 0100 00*4 00*8 0600 00*6 00*4 8020
     add 4097 4098 | 07 00 0100 00*4 00*8 0600 00*6 00*4 8020 | 07 00 0300 00*4 00*8 0800 00*6 00*4 80200101
@@ -90,6 +103,10 @@ const TREES: &str = "\
     most 5 | 08 00 0400 0c 00*3 00*8 2000 00*6 08 00*3 2c01 00*2 09 00*3 9001 00*2 0a 00*3 f401 00*2 0b 00*3 \
         5802 00*2 | 08 00 0300 05 00*3 00*8 1800 00*6 08 00*3 2c01 00*2 09 00*3 9001 00*2 0a 00*3 f401 00*2; 08 00 \
         0100 0c 00*3 00*8 0800 00*6 0b 00*3 5802 00*2
+    half 5 | 08 00 fd03 0b 00*3 00*8 e81f 00*6 1..1021 | 08 00 ff01 05 00*3 00*8 f80f 00*6 1..511; 08 00 fe01 0b 00*3 \
+        00*8 f00f 00*6 512..1021
+    most 5 | 08 00 fd03 0b 00*3 00*8 e81f 00*6 1..1021 | 08 00 fc03 05 00*3 00*8 e01f 00*6 1..1020; 08 00 0100 0b 00*3 \
+        00*8 0800 00*6 1021..1021
     grow 6 | 07 00 0300 00*4 00*8 0700 00*6 00*4 010101 | 08 00 0100 00*4 00*8 0800 00*6 06 00*3 ffffffff; 07 \
         00 0300 00*4 00*8 0700 00*6 00*4 010101
     grow 6 | 08 00 0300 00*4 00*8 1800 00*6 08 00*3 2c01 00*2 09 00*3 9001 00*2 0a 00*3 ffffffff | 08 00 0100 \
@@ -99,6 +116,8 @@ const TREES: &str = "\
         1800 00*6 08 00*3 c8 00*3 07 00*3 2c01 00*2 09 00*3 ffffffff
     adopt 9 7 500 | 08 00 0200 00*4 00*8 1000 00*6 08 00*3 2c01 00*2 09 00*3 ffffffff | 08 00 0300 00*4 00*8 \
         1800 00*6 08 00*3 2c01 00*2 09 00*3 f401 00*2 07 00*3 ffffffff
+    adopt 1020 1021 1020 | 08 00 fc03 00*4 00*8 e01f 00*6 1..1019 fc03 00*2 ffffffff | 08 00 fd03 00*4 00*8 e81f 00*6 \
+        1..1020 fd03 00*2 ffffffff
     adopt 7 6 500 | 08 00 0200 00*4 00*8 1000 00*6 08 00*3 2c01 00*2 09 00*3 ffffffff | none
     adopt 7 6 500 | 07 00 0300 00*4 00*8 0700 00*6 00*4 010101 | none
     unlink 8 | 08 00 0300 00*4 00*8 1800 00*6 08 00*3 2c01 00*2 09 00*3 9001 00*2 0a 00*3 ffffffff | 08 00 0200 00*4 \
@@ -143,8 +162,8 @@ fn is_tree_page(page: &Page) -> bool
     matches!(page.body, Body::PostLeaf { .. } | Body::PostInner(_))
 }
 
-/// How many items or children a page has.
-fn members(page: &Page) -> usize
+/// How many items, entries or children a page of a tree has.
+pub(crate) fn members(page: &Page) -> usize
     ensures { result ≤ count_of page.now.body }
 {
     match &page.body {
@@ -153,6 +172,8 @@ fn members(page: &Page) -> usize
             Err(_) => 0,
         },
         Body::PostInner(children) => children.len(),
+        Body::EntryLeaf { entries, .. } => entries.len(),
+        Body::EntryInner(children) => children.len(),
         _ => 0,
     }
 }
@@ -203,7 +224,11 @@ fn is_filled(alloc: Global, page: &Page, words: &str, tells: &str) -> Result<boo
 }
 
 /// Whether two pages are these.
-fn have_bytes(alloc: Global, pages: &(Page, Page), tells: &str) -> Result<bool, AllocError> {
+pub(crate) fn have_bytes(
+    alloc: Global,
+    pages: &(Page, Page),
+    tells: &str,
+) -> Result<bool, AllocError> {
     let (first, second) = tells.split_once("; ").unwrap_or((tells, ""));
     Ok(has_bytes(alloc, &pages.0, first)? && has_bytes(alloc, &pages.1, second)?)
 }
@@ -233,7 +258,11 @@ fn is_grown(alloc: Global, page: &Page, child: u32, tells: &str) -> Result<bool,
 }
 
 /// Whether a page that is given is this one, or none is.
-fn is_given(alloc: Global, given: &Option<Page>, tells: &str) -> Result<bool, AllocError> {
+pub(crate) fn is_given(
+    alloc: Global,
+    given: &Option<Page>,
+    tells: &str,
+) -> Result<bool, AllocError> {
     match given {
         None => Ok(tells == "none"),
         Some(page) => has_bytes(alloc, page, tells),
@@ -279,13 +308,26 @@ fn is_rooted(alloc: Global, page: &Page, words: &str, tells: &str) -> Result<boo
     is_given(alloc, &root_at(page, place, number(root))?, tells)
 }
 
+/// Whether a page without the items of a list is this one, or has none of them.
+fn is_left(alloc: Global, page: &Page, words: &str, tells: &str) -> Result<bool, AllocError>
+    requires { IsPage page.now }
+{
+    let dead = ItemSet::new(items_in(alloc, words)?);
+    is_given(alloc, &remove(alloc, page, &dead)?, tells)
+}
+
 /// Whether a change of a page, or a look at it, gives what its row says.
 fn gives(alloc: Global, page: &Page, words: &str, tells: &str) -> Result<bool, AllocError>
     requires { IsPage page.now }
 {
     let (verb, words) = word(words);
-    if verb == "root" {
-        return is_rooted(alloc, page, words, tells);
+    match verb {
+        "root" => return is_rooted(alloc, page, words, tells),
+        "remove" => return is_left(alloc, page, words, tells),
+        _ => {}
+    }
+    if entry_tests::is_entry_page(page) {
+        return entry_tests::gives(alloc, page, verb, words, tells);
     }
     if !is_tree_page(page) {
         return is_made(alloc, words, tells);
@@ -314,7 +356,9 @@ pub(crate) fn holds(alloc: Global, row: &str) -> Result<bool, AllocError> {
 }
 
 #[test]
-fn posting_pages_are_read_made_and_changed(rt: HostRuntime) -> Result<(), Fail> {
-    try_rows(&rt, rt.alloc(), Kind::Tree, TREES)?;
+fn pages_of_trees_are_read_made_and_changed(rt: HostRuntime) -> Result<(), Fail> {
+    for rows in [TREES, FOUND, FILLED, SPLIT, GROWN, ADOPTED, LEFT] {
+        try_rows(&rt, rt.alloc(), Kind::Tree, rows)?;
+    }
     Ok(())
 }
