@@ -1,10 +1,12 @@
 // Inserts into stores that lie in files, beside bare writes and syncs, and a search of such a store.
+use crate::lines::{must, print_two};
 use crate::shell::run_script;
-use anyhow::{Result, ensure};
+use anyhow::Result;
 use bench_base::{Bench, Figure};
 use disk_file::{FileDisk, SystemFolder};
 use shell_run::NoGate;
 use std::fs::{self, OpenOptions};
+use std::io;
 use std::os::unix::fs::FileExt;
 use std::sync::Wait;
 use std::thread::Threads;
@@ -26,6 +28,13 @@ const INSERTS: u32 = 100;
 
 /// How many such stores there are, one after another.
 const ROUNDS: u32 = 2;
+
+/// What is printed of these.
+const COSTS: [&str; 3] = [
+    "2 stores of 100 inserts of 8 words: ",
+    " bytes of log\na bare file: ",
+    " bytes",
+];
 
 /// An insert of one word, so that one page has room for many.
 const SMALL: &str = "@1 insert vector 'a'\n";
@@ -66,11 +75,11 @@ fn run_over_files<R: Threads + Wait + Sync>(
     times: usize,
 ) -> Result<u64> {
     let alloc = bench.alloc();
-    let script = script.repeat(alloc, times)?.into_bytes();
+    let script = script.repeat(alloc, times)?;
     let disk = FileDisk::new(SystemFolder::new(bench.runtime()));
-    let ended = run_script(rt, alloc, script, disk, &NoGate)?;
-    ensure!(ended.status == 0, "a run over files fails");
-    Ok(names_in(ended.out.bytes()))
+    let (replies, disk) = run_script(rt, alloc, script.as_bytes(), disk, &NoGate)?;
+    drop(disk);
+    Ok(names_in(replies.bytes()))
 }
 
 /// How many names are in a text.
@@ -101,6 +110,12 @@ fn insert<R: Threads + Wait + Sync>(rt: &R, bench: &Bench<'_>) -> Result<Cost> {
     Ok(Cost { seconds, bytes })
 }
 
+/// Writes bytes at a place, and syncs them.
+fn write_and_sync(file: &fs::File, bytes: &[u8], at: u64) -> io::Result<()> {
+    file.write_all_at(bytes, at)?;
+    file.sync_data()
+}
+
 /// Writes a piece to the bare file and syncs it, then a byte after it and syncs that, as often as there are inserts,
 /// each piece after the last. It answers how many bytes are written.
 fn write_pieces(files: &HostRuntime, piece: &[u8]) -> Result<u64> {
@@ -110,11 +125,9 @@ fn write_pieces(files: &HostRuntime, piece: &[u8]) -> Result<u64> {
         .open(files, BARE)?;
     let mut at = 0u64;
     for _ in 0..INSERTS {
-        file.write_all_at(piece, at)?;
-        file.sync_data()?;
+        write_and_sync(&file, piece, at)?;
         at = at.saturating_add(piece.len() as u64);
-        file.write_all_at(&[1], at)?;
-        file.sync_data()?;
+        write_and_sync(&file, &[1], at)?;
     }
     Ok(at.saturating_add(1))
 }
@@ -132,12 +145,9 @@ fn write_bare(bench: &Bench<'_>, bytes: u64) -> Result<Cost> {
 
 /// Prints how many bytes were written to stores and to bare files, and where time is asked for how long that took.
 fn print_costs(bench: &Bench<'_>, stores: Cost, bare: Cost) -> Result<()> {
-    let out = bench.runtime();
-    println!(out;
-        "{ROUNDS} stores of {INSERTS} inserts of 8 words: {} bytes of log\na bare file: {} bytes",
-        stores.bytes, bare.bytes
-    )?;
+    print_two(bench, COSTS, stores.bytes, bare.bytes)?;
     if bench.is_timed() {
+        let out = bench.runtime();
         let times = stores.seconds / bare.seconds;
         println!(out;
             "stores {:.3} seconds, bare {:.3} seconds, {times:.2} times",
@@ -169,8 +179,8 @@ fn open_and_search<R: Threads + Wait + Sync>(rt: &R, bench: &Bench<'_>) -> Resul
     let found = run_over_files(rt, bench, SEARCH, 1)?;
     let seconds = bench.since(start)?;
     remove_store(bench)?;
-    let out = bench.runtime();
-    println!(out; "a store of {DOCUMENTS} documents: status 0, {found} found")?;
+    let pieces = ["a store of ", " documents: status 0, ", " found"];
+    print_two(bench, pieces, DOCUMENTS as u64, found)?;
     if bench.is_timed() {
         bench.tell(1, "opening for that search", seconds, Figure::Whole)?;
     }
@@ -181,7 +191,7 @@ fn open_and_search<R: Threads + Wait + Sync>(rt: &R, bench: &Bench<'_>) -> Resul
 pub(crate) fn run_files<R: Threads + Wait + Sync>(rt: &R, bench: &Bench<'_>) -> Result<()> {
     let files = bench.runtime();
     let there = fs::exists(files, LOG)? || fs::exists(files, PAGES)?;
-    ensure!(!there, "{LOG} is there already");
+    must(!there, "a store is there already")?;
     compare(rt, bench)?;
     open_and_search(rt, bench)
 }

@@ -1,6 +1,7 @@
 // A log of many records, and its opening.
-use crate::shell::{Ended, empty, run_script};
-use anyhow::{Result, bail, ensure};
+use crate::lines::{answered, must, print_two};
+use crate::shell::{empty, run_script};
+use anyhow::Result;
 use bench_base::{Bench, Figure};
 use disk_trait::{Disk, File, MemoryDisk};
 use shell_run::NoGate;
@@ -60,23 +61,21 @@ fn push_batch(log: &mut Vec<u8>, first: u32) -> Result<(), AllocError> {
     Ok(())
 }
 
-/// The bytes of the log.
+/// The bytes of the log, without the closed commit byte at its end.
 fn log_of(alloc: Global, disk: &mut MemoryDisk) -> Result<Vec<u8>> {
-    let Ok(length) = disk.length(File::Log) else {
-        bail!("a length fails");
-    };
+    let length = answered(disk.length(File::Log))?;
     let mut bytes = vec![in alloc; 0u8; length as usize]?;
-    ensure!(disk.read(File::Log, 0, &mut bytes).is_ok(), "a read fails");
+    answered(disk.read(File::Log, 0, &mut bytes))?;
+    must(bytes.pop() == Some(0), "a log ends with a closed gate")?;
     Ok(bytes)
 }
 
-/// The log of a run with one insert, without the closed commit byte at its end.
+/// The log of a run with one insert.
 fn log_with_insert<R: Threads + Wait + Sync>(rt: &R, alloc: Global) -> Result<Vec<u8>> {
-    let ended = run_script(rt, alloc, INSERT.to_vec(alloc)?, empty(alloc), &NoGate)?;
-    let mut disk = ended.store;
-    let mut log = log_of(alloc, &mut disk)?;
-    ensure!(log.pop() == Some(0), "a log ends with a closed gate");
-    Ok(log)
+    let (_, mut disk) = run_script(rt, alloc, INSERT, empty(alloc), &NoGate)?;
+    let log = log_of(alloc, &mut disk);
+    drop(disk);
+    log
 }
 
 /// So many batches come after the records of an insert, whose transaction is the first, and whose records have the
@@ -91,17 +90,24 @@ fn push_batches(log: &mut Vec<u8>, batches: u32) -> Result<(), AllocError> {
 
 /// A device whose log has these bytes.
 fn holding(alloc: Global, log: &[u8]) -> Result<MemoryDisk> {
+    must(log.len() <= MOST_BYTES, "a log is too long")?;
     let mut disk = empty(alloc);
-    ensure!(log.len() <= MOST_BYTES, "a log is too long");
-    ensure!(disk.write_at(File::Log, 0, log).is_ok(), "out of memory");
-    Ok(disk)
+    match answered(disk.write_at(File::Log, 0, log)) {
+        Ok(()) => Ok(disk),
+        Err(error) => {
+            drop(disk);
+            Err(error)
+        }
+    }
 }
 
-/// How many calls of its device a run has made that found the document.
-fn calls_of(ended: &Ended<MemoryDisk>) -> Result<u64> {
-    ensure!(ended.status == 0, "an opening fails");
-    ensure!(ended.out.bytes() == FOUND, "a search finds something else");
-    Ok(ended.store.calls())
+/// A search of the store on a device, which finds the document: how many calls of the device there were.
+fn search<R: Threads + Wait + Sync>(rt: &R, alloc: Global, disk: MemoryDisk) -> Result<u64> {
+    let (replies, disk) = run_script(rt, alloc, SEARCH, disk, &NoGate)?;
+    let calls = disk.calls();
+    drop(disk);
+    must(replies.bytes() == FOUND, "a search finds something else")?;
+    Ok(calls)
 }
 
 /// Opens the store of a log with so many batches for a search, and prints what comes of it.
@@ -111,15 +117,16 @@ fn open<R: Threads + Wait + Sync>(
     log: &[u8],
     batches: u32,
 ) -> Result<()> {
-    let alloc = bench.alloc();
-    let disk = holding(alloc, log)?;
-    let start = bench.start()?;
-    let ended = run_script(rt, alloc, SEARCH.to_vec(alloc)?, disk, &NoGate)?;
-    let seconds = bench.since(start)?;
-    let calls = calls_of(&ended)?;
-    let out = bench.runtime();
-    let size = log.len();
-    println!(out; "{batches} batches of 1000 records in {size} bytes: status 0, @1 found 2/0#1")?;
+    let disk = holding(bench.alloc(), log)?;
+    let start = bench.start();
+    let calls = search(rt, bench.alloc(), disk)?;
+    let seconds = bench.since(start?)?;
+    let pieces = [
+        "",
+        " batches of 1000 records in ",
+        " bytes: status 0, @1 found 2/0#1",
+    ];
+    print_two(bench, pieces, u64::from(batches), log.len() as u64)?;
     bench.tell(calls, "calls of the device", seconds, Figure::Whole)
 }
 

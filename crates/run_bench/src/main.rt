@@ -10,6 +10,7 @@
 mod device;
 mod files;
 mod growth;
+mod lines;
 mod logs;
 mod shell;
 mod statements;

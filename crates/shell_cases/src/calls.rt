@@ -298,17 +298,17 @@ fn see_narrow(
         ..WIDEST
     };
     let disk = see_rows(rt, empty(rt.alloc()), narrow, rows, tally);
-    see_rows(rt, disk, WIDEST, wide, tally);
+    drop(see_rows(rt, disk, WIDEST, wide, tally));
 }
 
 /// Stores with narrow limits, each opened again with wide ones but where no xid is left, and one that two sessions
 /// share.
 pub fn see_calls(rt: &(impl Print + AllocGlobal), tally: &mut Tally) {
-    see_rows(rt, empty(rt.alloc()), SPENT, SPENT_ROWS, tally);
+    drop(see_rows(rt, empty(rt.alloc()), SPENT, SPENT_ROWS, tally));
     see_narrow(rt, SHORT, SHORT_ROWS, ONE_ROWS, tally);
     see_narrow(rt, ROWLESS, SHORT_ROWS, ONE_ROWS, tally);
     see_narrow(rt, UNENDED, SHORT_ROWS, ONE_ROWS, tally);
     see_narrow(rt, JUST, JUST_ROWS, WIDE_ROWS, tally);
     see_narrow(rt, BARELY, BARELY_ROWS, WIDE_ROWS, tally);
-    see_rows(rt, empty(rt.alloc()), WIDEST, SHARED_ROWS, tally);
+    drop(see_rows(rt, empty(rt.alloc()), WIDEST, SHARED_ROWS, tally));
 }

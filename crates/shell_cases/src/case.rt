@@ -1,5 +1,5 @@
 // A case, its files and its runs.
-use crate::compare::{Wanted, report};
+use crate::compare::{Wanted, agrees, tell_difference};
 use crate::edits::open_edits;
 use crate::runs::{PIECE, Script, Shell, empty, holding, log_of, only};
 use crate::short::expanded;
@@ -50,11 +50,11 @@ impl RunFiles<'_> {
         }
     }
 
-    /// The number in a file, if it is there.
-    fn number(&self, rt: &(impl Files + AllocGlobal), name: &str) -> Result<Option<u64>> {
+    /// The number in a file, or this one where it is not there.
+    fn number(&self, rt: &(impl Files + AllocGlobal), name: &str, absent: u64) -> Result<u64> {
         match self.known(rt, name)? {
-            Some(bytes) => Ok(Some(str::from_utf8(&bytes)?.trim().parse()?)),
-            None => Ok(None),
+            Some(bytes) => Ok(str::from_utf8(&bytes)?.trim().parse()?),
+            None => Ok(absent),
         }
     }
 
@@ -85,106 +85,161 @@ impl RunFiles<'_> {
         }
     }
 
-    /// The words of the run, if it has some of its own.
-    fn words(&self, rt: &(impl Files + AllocGlobal)) -> Result<Option<Vec<String>>> {
-        let Some(bytes) = self.known(rt, "words")? else {
-            return Ok(None);
-        };
-        let mut words = Vec::new(rt.alloc());
-        for word in str::from_utf8(&bytes)?.split_whitespace() {
-            words.push(String::from_str(rt.alloc(), word)?)?;
+    /// The words of the run: `run`, if it has no others.
+    fn words(&self, rt: &(impl Files + AllocGlobal)) -> Result<Vec<String>> {
+        match self.known(rt, "words")? {
+            Some(bytes) => Ok(words_in(rt.alloc(), str::from_utf8(&bytes)?)?),
+            None => Ok(words_in(rt.alloc(), "run")?),
         }
-        Ok(Some(words))
     }
 
-    /// What the run is given, if it has a script.
-    fn inputs(&self, rt: &(impl Files + AllocGlobal)) -> Result<Option<Inputs>> {
-        let Some(script) = self.tidied_text(rt, "script", self.after)? else {
-            return Ok(None);
-        };
-        let piece = self.number(rt, "piece")?.unwrap_or(PIECE as u64);
-        Ok(Some(Inputs {
-            script,
+    /// How the run reads its script and writes its replies.
+    fn manner(&self, rt: &(impl Files + AllocGlobal)) -> Result<Manner> {
+        let piece = self.number(rt, "piece", PIECE as u64)?;
+        Ok(Manner {
             piece: usize::try_from(piece)?.max(1),
-            read: self.number(rt, "reads")?.unwrap_or(0),
-            write: self.number(rt, "writes")?.unwrap_or(0),
-            words: self.words(rt)?,
-        }))
+            read: self.number(rt, "reads", 0)?,
+            write: self.number(rt, "writes", 0)?,
+        })
     }
 
-    /// What the run is to print, how it is to end, and what it is to leave.
-    fn wanted(&self, rt: &(impl Files + AllocGlobal)) -> Result<Wanted> {
-        let status = self.number(rt, "status")?;
-        let text = self.tidied_text(rt, "expected", DONE)?;
-        let left = if self.after.is_empty() {
-            self.known(rt, "left")?
+    /// The log that the run is to leave, where that is known.
+    fn left(&self, rt: &(impl Files + AllocGlobal)) -> Result<Option<Vec<u8>>> {
+        if self.after.is_empty() {
+            self.known(rt, "left")
         } else {
-            None
-        };
+            Ok(None)
+        }
+    }
+
+    /// What the run is to print, how it is to end, and what it is to leave. Where no status is said, none is right.
+    fn wanted(&self, rt: &(impl Files + AllocGlobal)) -> Result<Wanted> {
+        let status = self.number(rt, "status", u64::MAX)?;
+        let left = self.left(rt)?;
+        let text = self.tidied_text(rt, "expected", DONE)?;
         Ok(Wanted {
-            status: status.context("a run ends with a status")?,
+            status,
             text: text.context("a run prints a text")?,
             left,
         })
     }
 }
 
-/// What a run is given.
-#[derive(Drop)]
-struct Inputs {
-    /// Its script.
-    script: Vec<u8>,
-    /// How many bytes of it a read gives at most.
+/// The words of a text.
+fn words_in(alloc: Global, text: &str) -> Result<Vec<String>, AllocError> {
+    let mut words = Vec::new(alloc);
+    for word in text.split_whitespace() {
+        words.push(String::from_str(alloc, word)?)?;
+    }
+    Ok(words)
+}
+
+/// How a run reads its script and writes its replies.
+#[derive(Clone, Copy)]
+struct Manner {
+    /// How many bytes of the script a read gives at most.
     piece: usize,
     /// The read that fails; 0 where none does.
     read: u64,
     /// The write of the replies that fails; 0 where none does.
     write: u64,
-    /// The command's words, if it has others than `run`.
-    words: Option<Vec<String>>,
 }
 
-impl Inputs {
-    /// A run over a store, which is then as the run leaves it: its status, and what has its replies.
-    fn run<R>(&self, shell: &Shell<'_, R>, store: &mut MemoryDisk) -> (u8, MemorySink)
-    where
-        R: Threads + Wait + Sync + AllocGlobal,
-    {
-        let alloc = shell.alloc();
-        let words = match &self.words {
-            Some(words) => words.as_slice(),
-            None => shell.words,
-        };
-        let script = Script::new(&self.script, self.piece, self.read);
-        let out = MemorySink::new(alloc, only(alloc, self.write));
-        let before = mem::replace(store, empty(alloc));
-        let ended = run_shell(shell.rt, alloc, words, script, out, before, &NoGate);
-        *store = ended.store;
-        (ended.status, ended.out)
+/// A run over a store, which is then as the run leaves it: its status, and what has its replies.
+fn run_over<R>(
+    shell: &Shell<'_, R>,
+    words: &[String],
+    script: &[u8],
+    manner: Manner,
+    store: &mut MemoryDisk,
+) -> (u8, MemorySink)
+where
+    R: Threads + Wait + Sync + AllocGlobal,
+{
+    let alloc = shell.alloc();
+    let source = Script::new(script, manner.piece, manner.read);
+    let out = MemorySink::new(alloc, only(alloc, manner.write));
+    let before = mem::replace(store, empty(alloc));
+    let ended = run_shell(shell.rt, alloc, words, source, out, before, &NoGate);
+    drop(mem::replace(store, ended.store));
+    (ended.status, ended.out)
+}
+
+/// Runs a script with the words and in the manner of these files: its status, and what has its replies.
+fn run_script<R>(
+    shell: &Shell<'_, R>,
+    files: &RunFiles<'_>,
+    script: &[u8],
+    store: &mut MemoryDisk,
+) -> Result<(u8, MemorySink)>
+where
+    R: Threads + Wait + Sync + AllocGlobal + Files,
+{
+    let manner = files.manner(shell.rt)?;
+    let words = files.words(shell.rt)?;
+    Ok(run_over(shell, &words, script, manner, store))
+}
+
+/// Whether a run is as it was wanted. It prints what is not.
+fn is_wanted<R>(
+    shell: &Shell<'_, R>,
+    name: &str,
+    wanted: &Wanted,
+    status: u8,
+    text: &[u8],
+    store: &mut MemoryDisk,
+) -> bool
+where
+    R: Print + AllocGlobal,
+{
+    let alloc = shell.rt.alloc();
+    let left = log_of(alloc, store).unwrap_or(Vec::new(alloc));
+    let agrees = agrees(wanted, status, text, &left);
+    if !agrees {
+        tell_difference(shell.rt, name, wanted, status, text, &left);
     }
+    agrees
 }
 
-/// Whether there is a run with these files, which is run over the store that those before it left.
-fn has_run<R>(
+/// Runs a script over the store that the runs before it left, and sees that it is as these files say.
+fn see_run<R>(
     shell: &Shell<'_, R>,
     name: &str,
     files: &RunFiles<'_>,
+    script: &[u8],
     store: &mut MemoryDisk,
     tally: &mut Tally,
-) -> Result<bool>
+) -> Result<()>
 where
     R: Threads + Wait + Sync + Print + AllocGlobal + Files,
 {
-    let Some(inputs) = files.inputs(shell.rt)? else {
-        return Ok(false);
-    };
     let wanted = files.wanted(shell.rt)?;
-    let (status, out) = inputs.run(shell, store);
-    let left = log_of(shell.alloc(), store).context("the log is read")?;
-    let agrees = report(shell.rt, name, &wanted, status, out.bytes(), &left)?;
+    let (status, out) = run_script(shell, files, script, store)?;
     tally.runs = tally.runs.saturating_add(1);
-    tally.note(agrees);
-    Ok(true)
+    tally.note(is_wanted(shell, name, &wanted, status, out.bytes(), store));
+    Ok(())
+}
+
+/// Runs the runs of a case, one after another over one store, which is then as they leave it.
+fn run_each<R>(
+    shell: &Shell<'_, R>,
+    name: &str,
+    first: &RunFiles<'_>,
+    store: &mut MemoryDisk,
+    tally: &mut Tally,
+) -> Result<()>
+where
+    R: Threads + Wait + Sync + Print + AllocGlobal + Files,
+{
+    let mut files = *first;
+    for suffix in SUFFIXES {
+        files.suffix = suffix;
+        let Some(script) = files.tidied_text(shell.rt, "script", files.after)? else {
+            break;
+        };
+        see_run(shell, name, &files, &script, store, tally)?;
+    }
+    Ok(())
 }
 
 /// Opens the edits of the log that a case leaves, where it has some.
@@ -207,34 +262,45 @@ where
 
 /// The store before the first run: its log, and `fails`, the call of the device that fails.
 fn store_of(rt: &(impl Files + AllocGlobal), files: &RunFiles<'_>) -> Result<MemoryDisk> {
-    let fails = files.number(rt, "fails")?.unwrap_or(0);
-    let log = files.known(rt, "log")?;
-    let bytes: &[u8] = match &log {
-        Some(log) => log.as_slice(),
-        None => b"",
-    };
-    Ok(holding(rt.alloc(), bytes, only(rt.alloc(), fails)))
+    let fails = files.number(rt, "fails", 0)?;
+    let log = files.known(rt, "log")?.unwrap_or(Vec::new(rt.alloc()));
+    Ok(holding(rt.alloc(), &log, only(rt.alloc(), fails)))
 }
 
-/// Runs the runs of a case, one after another over one store, which is then as they leave it.
-fn run_each<R>(
+/// Runs the runs of a case, and where they are without maintenance the edits of the log that they leave.
+fn run_runs<R>(
     shell: &Shell<'_, R>,
     name: &str,
-    first: &RunFiles<'_>,
+    files: &RunFiles<'_>,
+    store: &mut MemoryDisk,
     tally: &mut Tally,
-) -> Result<MemoryDisk>
+) -> Result<()>
 where
     R: Threads + Wait + Sync + Print + AllocGlobal + Files,
 {
-    let mut files = *first;
-    let mut store = store_of(shell.rt, first)?;
-    for suffix in SUFFIXES {
-        files.suffix = suffix;
-        if !has_run(shell, name, &files, &mut store, tally)? {
-            break;
-        }
+    let before = tally.runs;
+    run_each(shell, name, files, store, tally)?;
+    ensure!(tally.runs > before, "a case has a script");
+    if files.after.is_empty() {
+        run_edits(shell, name, files, store, tally)?;
     }
-    Ok(store)
+    Ok(())
+}
+
+/// The same over the store with which they begin.
+fn run_all<R>(
+    shell: &Shell<'_, R>,
+    name: &str,
+    files: &RunFiles<'_>,
+    tally: &mut Tally,
+) -> Result<()>
+where
+    R: Threads + Wait + Sync + Print + AllocGlobal + Files,
+{
+    let mut store = store_of(shell.rt, files)?;
+    let ran = run_runs(shell, name, files, &mut store, tally);
+    drop(store);
+    ran
 }
 
 /// Runs the runs of a case once more for each of these words, which are statements of maintenance.
@@ -255,7 +321,7 @@ where
             short: files.short,
             after: word,
         };
-        run_each(shell, name, &tidied, tally)?;
+        run_all(shell, name, &tidied, tally)?;
     }
     Ok(())
 }
@@ -278,10 +344,7 @@ where
         after: "",
     };
     files.short = files.known(shell.rt, "short")?.is_some();
-    let before = tally.runs;
-    let mut store = run_each(shell, name, &files, tally)?;
-    ensure!(tally.runs > before, "a case has a script");
-    run_edits(shell, name, &files, &mut store, tally)?;
+    run_all(shell, name, &files, tally)?;
     match files.known(shell.rt, "tidied")? {
         Some(words) => run_tidied(shell, name, &files, str::from_utf8(&words)?, tally),
         None => Ok(()),

@@ -1,7 +1,8 @@
 // How what was wanted and what came differ.
-ghost use Rattle.std.specs.Prelude.{◌≡◌, ◌↔◌, IsNone, IsTrue, IfOk, IfSome};
+ghost use Rattle.std.specs.Prelude.{◌≡◌, ◌↔◌, IsTrue, IfSome};
 
-use std::{io, str};
+use crate::tally::tell;
+use std::str;
 
 /// What a run must print, its status, and the log's bytes that it must leave, where they are known.
 #[derive(Drop)]
@@ -35,15 +36,25 @@ pub fn count_of(bytes: &[u8], sought: u8) -> usize {
     count
 }
 
-/// The number of the first line that differs, from 0.
-fn first_difference(wanted: &[u8], written: &[u8]) -> Option<usize>
-    ensures { IsNone result ↔ (wanted.now ≡ written.now) }
+/// Whether this is the log that was wanted, where that is known.
+fn is_left(wanted: &Option<Vec<u8>>, left: &[u8]) -> bool
+    ensures { IsTrue result ↔ IfSome wanted.now (λ w. w.items ≡ left.now) }
 {
-    if wanted == written {
-        return None;
+    match wanted {
+        Some(wanted) => wanted.as_slice() == left,
+        None => true,
     }
-    let same = wanted.get(..same_front(wanted, written)).unwrap_or(b"");
-    Some(count_of(same, b'\n'))
+}
+
+/// Whether what a run printed, its status and the log that it left are as they were wanted.
+pub fn agrees(wanted: &Wanted, status: u8, written: &[u8], left: &[u8]) -> bool
+    ensures { IsTrue result ↔ ((wanted.now.text.items ≡ written.now)
+        × (wanted.now.status ≡ status)
+        × IfSome wanted.now.left (λ w. w.items ≡ left.now)) }
+{
+    wanted.text.as_slice() == written
+        && wanted.status == u64::from(status)
+        && is_left(&wanted.left, left)
 }
 
 /// The line with this number, from 0, of a text.
@@ -52,56 +63,39 @@ fn line_at(bytes: &[u8], number: usize) -> &str {
     text.split('\n').nth(number).unwrap_or("")
 }
 
-/// Whether the printed text is as it was wanted. It prints the first line that is not.
-fn same_text(rt: &impl Print, name: &str, wanted: &[u8], written: &[u8]) -> io::Result<bool>
-    ensures { IfOk result (λ agrees. IsTrue agrees ↔ (wanted.now ≡ written.now)) }
-{
-    let difference = first_difference(wanted, written);
-    if let Some(number) = difference {
-        let (was, is) = (line_at(wanted, number), line_at(written, number));
-        let line = number.saturating_add(1);
-        println!(rt; "{name}: line {line}: wanted {was:?}, written {is:?}")?;
-    }
-    Ok(difference.is_none())
+/// Prints the first line that differs.
+fn tell_line(rt: &impl Print, name: &str, wanted: &[u8], written: &[u8]) {
+    let same = wanted.get(..same_front(wanted, written)).unwrap_or(b"");
+    let number = count_of(same, b'\n');
+    let line = number.saturating_add(1) as u64;
+    tell(rt, name, "wanted in line", line, line_at(wanted, number));
+    tell(rt, name, "written in line", line, line_at(written, number));
 }
 
-/// Whether the log's bytes are as they were wanted, where that is known. It prints the place of the first that is not.
-fn same_log(rt: &impl Print, name: &str, wanted: &Option<Vec<u8>>, left: &[u8]) -> io::Result<bool>
-    ensures { IfOk result (λ agrees. IsTrue agrees ↔ IfSome wanted.now (λ w. w.items ≡ left.now)) }
-{
-    let Some(wanted) = wanted else {
-        return Ok(true);
-    };
-    if wanted.as_slice() == left {
-        return Ok(true);
-    }
+/// Prints the first place where a log differs, and how many bytes there are.
+fn tell_log(rt: &impl Print, name: &str, wanted: &[u8], left: &[u8]) {
     let place = same_front(wanted, left);
-    let (was, is) = (wanted.len(), left.len());
-    println!(rt; "{name}: log: wanted {was} bytes, left {is}, which differ at {place}")?;
-    Ok(false)
+    tell(rt, name, "the log differs at", place as u64, "");
+    tell(rt, name, "bytes of log wanted:", wanted.len() as u64, "");
+    tell(rt, name, "bytes of log left:", left.len() as u64, "");
 }
 
-/// Whether what a run printed, its status and the log that it left are as they were wanted. It prints a line for each
-/// that is not.
-pub fn report(
+/// Prints how a run differs from what was wanted.
+pub fn tell_difference(
     rt: &impl Print,
     name: &str,
     wanted: &Wanted,
     status: u8,
     written: &[u8],
     left: &[u8],
-) -> io::Result<bool>
-    ensures { IfOk result (λ agrees. IsTrue agrees ↔ ((wanted.now.text.items ≡ written.now)
-        × (wanted.now.status ≡ status)
-        × IfSome wanted.now.left (λ w. w.items ≡ left.now))) }
-{
-    let text = same_text(rt, name, &wanted.text, written)?;
-    let log = same_log(rt, name, &wanted.left, left)?;
-    if wanted.status != u64::from(status) {
-        println!(rt;
-            "{name}: status: wanted {}, ended with {status}",
-            wanted.status
-        )?;
+) {
+    if wanted.text.as_slice() != written {
+        tell_line(rt, name, &wanted.text, written);
     }
-    Ok(text && log && wanted.status == u64::from(status))
+    match &wanted.left {
+        Some(wanted) if wanted.as_slice() != left => tell_log(rt, name, wanted, left),
+        _ => {}
+    }
+    tell(rt, name, "status wanted:", wanted.status, "");
+    tell(rt, name, "status:", u64::from(status), "");
 }

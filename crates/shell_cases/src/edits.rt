@@ -1,8 +1,9 @@
 // Edits of a log, each of which is opened.
-use crate::runs::{Shell, has_log, holding};
-use crate::tally::Tally;
+use crate::runs::{Shell, holding};
+use crate::tally::{Tally, tell};
 use anyhow::Result;
 use bench_base::EditLine;
+use disk_trait::Disk;
 use std::sync::Wait;
 use std::thread::Threads;
 
@@ -15,19 +16,29 @@ const LEGAL: &str = "legal";
 /// What is run over an edited log.
 const SCRIPT: &[u8] = b"@1 search '!a'\n@1 insert vector 'a:1'\n";
 
-/// Whether the run over this edited log ends as the verdict says. Of a log that is no store nothing is printed and
-/// nothing is changed; over any other the run goes to its end, and over a legal one nothing is refused.
-fn opens_so<R>(shell: &Shell<'_, R>, log: &[u8], verdict: &str) -> bool
+/// Whether the run over a store with this edited log ends as the verdict says. Of a log that is no store nothing is
+/// printed and nothing is changed; over any other the run goes to its end, and over a legal one nothing is refused.
+fn opens_so<R, D>(shell: &Shell<'_, R>, store: D, log: &[u8], verdict: &str) -> bool
+where
+    R: Threads + Wait + Sync + AllocGlobal,
+    D: Disk + Send + Drop,
+{
+    if verdict == REFUSED {
+        return shell.refuses(SCRIPT, store, log);
+    }
+    let status = shell.run_on(SCRIPT, store).status;
+    status == 0 || status == 1 && verdict != LEGAL
+}
+
+/// Whether an edit of a log meets its verdict.
+fn is_met<R>(shell: &Shell<'_, R>, log: &[u8], edit: &EditLine<'_>) -> Result<bool>
 where
     R: Threads + Wait + Sync + AllocGlobal,
 {
     let alloc = shell.alloc();
-    let mut ended = shell.run_on(SCRIPT, holding(alloc, log, Vec::new(alloc)));
-    if verdict != REFUSED {
-        return ended.status == 0 || ended.status == 1 && verdict != LEGAL;
-    }
-    let unchanged = has_log(alloc, &mut ended.store, log);
-    unchanged && ended.status == 4 && ended.out.bytes().is_empty()
+    let bytes = edit.apply(alloc, log)?;
+    let store = holding(alloc, &bytes, Vec::new(alloc));
+    Ok(opens_so(shell, store, &bytes, edit.wanted))
 }
 
 /// Opens each edit of a log. It prints the line of one that doesn't meet its verdict.
@@ -41,15 +52,12 @@ pub fn open_edits<R>(
 where
     R: Threads + Wait + Sync + Print + AllocGlobal,
 {
-    let rt = shell.rt;
     for line in edits.lines() {
-        let edit = EditLine::new(line)?;
-        let bytes = edit.apply(shell.alloc(), log)?;
-        let met = opens_so(shell, &bytes, edit.wanted);
+        let met = is_met(shell, log, &EditLine::new(line)?)?;
         tally.edits = tally.edits.saturating_add(1);
         tally.note(met);
         if !met {
-            println!(rt; "{name}: {line}")?;
+            tell(shell.rt, name, "edit", tally.edits, line);
         }
     }
     Ok(())

@@ -2,9 +2,9 @@
 ghost use Rattle.std.specs.Prelude.{None};
 
 use crate::compare::{count_of, same_front};
-use crate::runs::{Ended, PIECE, Script, Shell, empty, only};
+use crate::runs::{Ended, PIECE, Script, Shell, empty, failing, only};
 use crate::tally::Tally;
-use disk_trait::{Failed, MemoryDisk, MemorySink, Sink};
+use disk_trait::{Disk, Failed, MemorySink, Sink};
 use std::sync::Wait;
 use std::thread::Threads;
 
@@ -35,22 +35,13 @@ parse 'a-b 1.5'
 /// What is asked of a store after a run.
 const AFTER: &[u8] = b"@1 search '!z'\n";
 
-/// A run of `SCRIPT` over an empty device, of which these calls fail.
-pub fn run_script<R>(shell: &Shell<'_, R>, fails: Vec<u64>) -> Ended<'static, MemoryDisk>
+/// A run of `SCRIPT` over a device.
+pub fn run_script<R, D>(shell: &Shell<'_, R>, store: D) -> Ended<'static, D>
 where
     R: Threads + Wait + Sync + AllocGlobal,
+    D: Disk + Send + Drop,
 {
-    shell.run_on(SCRIPT, MemoryDisk::new(shell.alloc(), fails))
-}
-
-/// A run of `SCRIPT` that is read in pieces, of which this one fails.
-fn run_read<R>(shell: &Shell<'_, R>, failing: u64) -> Ended<'static, MemoryDisk>
-where
-    R: Threads + Wait + Sync + AllocGlobal,
-{
-    let alloc = shell.alloc();
-    let out = MemorySink::new(alloc, Vec::new(alloc));
-    shell.run(Script::new(SCRIPT, SHORT, failing), out, empty(alloc))
+    shell.run_on(SCRIPT, store)
 }
 
 /// A sink that takes pieces.
@@ -82,33 +73,33 @@ fn is_cut_short(text: &[u8], good: &[u8]) -> bool {
 }
 
 /// Whether a store opens, and goes on.
-fn opens<R>(shell: &Shell<'_, R>, store: MemoryDisk) -> bool
+fn opens<R, D>(shell: &Shell<'_, R>, store: D) -> bool
 where
     R: Threads + Wait + Sync + AllocGlobal,
+    D: Disk + Send + Drop,
 {
     shell.run_on(AFTER, store).status == 0
 }
 
-/// Whether the run of which this call of the device fails has status 3 and has printed nothing or a line for each
-/// reply, and what it leaves is opened.
-fn fails_at<R>(shell: &Shell<'_, R>, call: u64, good: &[u8]) -> bool
+/// Whether the run over a device of which a call fails has status 3 and has printed nothing or a line for each reply,
+/// and what it leaves is opened.
+fn fails_well<R, D>(shell: &Shell<'_, R>, store: D, good: &[u8]) -> bool
 where
     R: Threads + Wait + Sync + AllocGlobal,
+    D: Disk + Send + Drop,
 {
-    let ended = run_script(shell, only(shell.alloc(), call));
+    let ended = run_script(shell, store);
     let cut = ended.status == 3 && is_cut_short(ended.out.bytes(), good);
     cut & opens(shell, ended.store)
 }
 
-/// Each call of the device of a run fails in turn.
-pub fn see_failing_calls<R>(shell: &Shell<'_, R>, tally: &mut Tally)
+/// Each of so many calls of the device of a run fails in turn.
+fn see_failing_calls<R>(shell: &Shell<'_, R>, good: &[u8], calls: u64, tally: &mut Tally)
 where
     R: Threads + Wait + Sync + Print + AllocGlobal,
 {
-    let good = run_script(shell, Vec::new(shell.alloc()));
-    tally.see(shell.rt, good.status == 0, "the script", 0);
-    for call in 1..=good.store.calls() {
-        let holds = fails_at(shell, call, good.out.bytes());
+    for call in 1..=calls {
+        let holds = fails_well(shell, failing(shell.alloc(), call), good);
         tally.see(
             shell.rt,
             holds,
@@ -118,48 +109,46 @@ where
     }
 }
 
-/// Whether nothing is run of a script of which this read fails.
-fn is_unread<R>(shell: &Shell<'_, R>, read: u64) -> bool
+/// Whether the run that is read in pieces, and of which this read fails, ends with this status and prints this. Where
+/// that is nothing, no call of the device was made.
+fn reads_so<R>(shell: &Shell<'_, R>, read: u64, status: u8, text: &[u8]) -> bool
 where
     R: Threads + Wait + Sync + AllocGlobal,
 {
-    let ended = run_read(shell, read);
-    ended.status == 6 && ended.out.bytes().is_empty() && ended.store.calls() == 0
+    let alloc = shell.alloc();
+    let out = MemorySink::new(alloc, Vec::new(alloc));
+    let ended = shell.run(Script::new(SCRIPT, SHORT, read), out, empty(alloc));
+    let untouched = ended.store.calls() == 0;
+    let so = ended.status == status && ended.out.bytes() == text;
+    drop(ended);
+    so && untouched == text.is_empty()
 }
 
-/// Whether all of a script is run that has fewer reads than this one, which fails.
-fn is_read<R>(shell: &Shell<'_, R>, read: u64) -> bool
-where
-    R: Threads + Wait + Sync + AllocGlobal,
-{
-    let good = run_script(shell, Vec::new(shell.alloc()));
-    let ended = run_read(shell, read);
-    ended.status == 0 && ended.out.bytes() == good.out.bytes()
-}
-
-/// Each read of a script fails in turn, the one that finds its end too: nothing is run then.
-pub fn see_failing_reads<R>(shell: &Shell<'_, R>, tally: &mut Tally)
+/// Each read of a script fails in turn, the one that finds its end too: nothing is run then. All of it is run where
+/// the read fails that is not made.
+fn see_failing_reads<R>(shell: &Shell<'_, R>, good: &[u8], tally: &mut Tally)
 where
     R: Threads + Wait + Sync + Print + AllocGlobal,
 {
     let reads = SCRIPT.len().div_ceil(SHORT).saturating_add(1) as u64;
     for read in 1..=reads {
-        let holds = is_unread(shell, read);
+        let holds = reads_so(shell, read, 6, b"");
         tally.see(shell.rt, holds, "the script that fails at read", read);
     }
-    let holds = is_read(shell, reads.saturating_add(1));
+    let holds = reads_so(shell, reads.saturating_add(1), 0, good);
     tally.see(shell.rt, holds, "the script that fails at no read", reads);
 }
 
 /// Whether this write of a run's replies fails, which are written in pieces; and whether the run then stops with a
 /// beginning of its replies, and what it leaves is opened, or else has written all of them.
-fn written<R>(shell: &Shell<'_, R>, write: u64, text: &[u8]) -> (bool, bool)
+fn written<R, D>(shell: &Shell<'_, R>, store: D, write: u64, text: &[u8]) -> (bool, bool)
 where
     R: Threads + Wait + Sync + AllocGlobal,
+    D: Disk + Send + Drop,
 {
     let alloc = shell.alloc();
     let sink = MemorySink::new(alloc, only(alloc, write));
-    let ended = shell.run(Script::new(SCRIPT, PIECE, 0), Pieces { sink }, empty(alloc));
+    let ended = shell.run(Script::new(SCRIPT, PIECE, 0), Pieces { sink }, store);
     let taken = ended.out.sink.bytes();
     if ended.status == 0 {
         return (false, taken == text);
@@ -172,15 +161,13 @@ where
 }
 
 /// Each write of the replies fails in turn.
-pub fn see_failing_writes<R>(shell: &Shell<'_, R>, tally: &mut Tally)
+fn see_failing_writes<R>(shell: &Shell<'_, R>, text: &[u8], tally: &mut Tally)
 where
     R: Threads + Wait + Sync + Print + AllocGlobal,
 {
-    let good = run_script(shell, Vec::new(shell.alloc()));
-    let text = good.out.bytes();
     let mut writes = 0;
     for write in 1..=text.len() as u64 {
-        let (failed, holds) = written(shell, write, text);
+        let (failed, holds) = written(shell, empty(shell.alloc()), write, text);
         tally.see(shell.rt, holds, "replies that fail at write", write);
         if !failed {
             break;
@@ -189,4 +176,18 @@ where
     }
     let each = writes >= text.len().div_ceil(SHORT) as u64;
     tally.see(shell.rt, each, "replies whose writes were", writes);
+}
+
+/// Each call of the device, each read of the script and each write of the replies fails in turn.
+pub fn see_faults<R>(shell: &Shell<'_, R>, tally: &mut Tally)
+where
+    R: Threads + Wait + Sync + Print + AllocGlobal,
+{
+    let good = run_script(shell, empty(shell.alloc()));
+    tally.see(shell.rt, good.status == 0, "the script", 0);
+    let text = good.out.bytes();
+    see_failing_calls(shell, text, good.store.calls(), tally);
+    see_failing_reads(shell, text, tally);
+    see_failing_writes(shell, text, tally);
+    drop(good);
 }

@@ -189,24 +189,16 @@ pub fn see_refused_calls(files: &HostRuntime, tally: &mut Tally) -> Result<()> {
     Ok(())
 }
 
-/// Whether a run over the files ends with this status and prints this.
-fn ends_so<R>(shell: &Shell<'_, R>, script: &[u8], store: Store<'_>, wanted: (u8, &[u8])) -> bool
-where
-    R: Threads + Wait + Sync + AllocGlobal,
-{
-    let ended = shell.run_on(script, store);
-    ended.status == wanted.0 && ended.out.bytes() == wanted.1
-}
-
 /// Whether a run stores two documents, one beside it has status 3 and prints nothing, and the first store finds both.
-fn is_alone<R>(shell: &Shell<'_, R>, files: &HostRuntime) -> bool
+fn is_alone<R, D>(shell: &Shell<'_, R>, store: D, beside: D) -> bool
 where
     R: Threads + Wait + Sync + AllocGlobal,
+    D: Disk + Send + Drop,
 {
-    let first = shell.run_on(INSERTS, store_in(files));
+    let first = shell.run_on(INSERTS, store);
     let stored = first.status == 0 && first.out.bytes() == STORED;
-    let beside = ends_so(shell, INSERTS, store_in(files), (3, b""));
-    stored & beside & ends_so(shell, SEARCH, first.store, (0, FOUND))
+    let refused = shell.prints(INSERTS, beside, 3, b"");
+    stored & refused & shell.prints(SEARCH, first.store, 0, FOUND)
 }
 
 /// A second run finds what a first one stored, and goes on with its names. Beside a run another has
@@ -215,16 +207,31 @@ pub fn see_runs<R>(shell: &Shell<'_, R>, files: &HostRuntime, tally: &mut Tally)
 where
     R: Threads + Wait + Sync + Print + AllocGlobal,
 {
-    tally.see(files, is_alone(shell, files), "a run beside another", 0);
-    let goes_on = ends_so(shell, MORE, store_in(files), (0, REPLIES));
+    let alone = is_alone(shell, store_in(files), store_in(files));
+    tally.see(files, alone, "a run beside another", 0);
+    let goes_on = shell.prints(MORE, store_in(files), 0, REPLIES);
     tally.see(files, goes_on, "a second run over files", 0);
     fs::remove_file(files, PAGES)?;
     fs::create_dir(files, PAGES)?;
-    let refused = ends_so(shell, MORE, store_in(files), (3, b""));
+    let refused = shell.prints(MORE, store_in(files), 3, b"");
     tally.see(files, refused, "a run over a folder", 0);
     fs::remove_dir(files, PAGES)?;
     fs::remove_file(files, LOG)?;
     Ok(())
+}
+
+/// How many documents a run finds, where it ends well.
+fn found_on<R, D>(shell: &Shell<'_, R>, store: D) -> Option<usize>
+where
+    R: Threads + Wait + Sync + AllocGlobal,
+    D: Disk + Send + Drop,
+{
+    let ended = shell.run_on(SEARCH, store);
+    if ended.status == 0 {
+        Some(count_of(ended.out.bytes(), b'#'))
+    } else {
+        None
+    }
 }
 
 /// How many documents a stop leaves, where the run over it ends well.
@@ -232,12 +239,10 @@ fn left_by<R>(shell: &Shell<'_, R>, disk: &MemoryDisk, moment: u64, pick: u64) -
 where
     R: Threads + Wait + Sync + AllocGlobal,
 {
-    let image = image_at(shell.alloc(), disk, moment, pick)?;
-    let ended = shell.run_on(SEARCH, FileDisk::new(MemoryFolder::new(image, SHORT)));
-    if ended.status != 0 {
-        return None;
+    match image_at(shell.alloc(), disk, moment, pick) {
+        Some(image) => found_on(shell, FileDisk::new(MemoryFolder::new(image, SHORT))),
+        None => None,
     }
-    Some(count_of(ended.out.bytes(), b'#'))
 }
 
 /// A stop at each moment of two inserts, also within a write that is done in parts, leaves a beginning of them, which
@@ -269,4 +274,5 @@ where
     let stored = ended.status == 0 && ended.out.bytes() == STORED;
     tally.see(shell.rt, stored, "short calls", 0);
     see_each_stop(shell, tally, ended.store.folder().disk());
+    drop(ended);
 }

@@ -93,7 +93,9 @@ where
     let script = Script::new(SCRIPT, PIECE, 0);
     let out = MemorySink::new(alloc, Vec::new(alloc));
     let ended = run_shell(shell.rt, alloc, shell.words, script, out, store, &events);
-    (events.number.load(Ordering::SeqCst), ended.status == 1)
+    let refused = ended.status == 1;
+    drop(ended);
+    (events.number.load(Ordering::SeqCst), refused)
 }
 
 /// Each statement calls the hook before it writes.

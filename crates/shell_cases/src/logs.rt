@@ -1,6 +1,6 @@
 // Runs over logs that are cut, or have another byte.
 use crate::faults::run_script;
-use crate::runs::{Shell, has_log, holding, log_of};
+use crate::runs::{Shell, empty, holding, log_of};
 use crate::tally::Tally;
 use std::mem;
 use std::sync::Wait;
@@ -24,11 +24,12 @@ where
     R: Threads + Wait + Sync + AllocGlobal,
 {
     let alloc = shell.alloc();
-    let mut ended = shell.run_on(OPENING, holding(alloc, log, Vec::new(alloc)));
-    let printed = ended.out.bytes() == text;
-    let status = if text.is_empty() { 4 } else { 0 };
-    let stays = !text.is_empty() || has_log(alloc, &mut ended.store, log);
-    printed & stays & (ended.status == status)
+    let store = holding(alloc, log, Vec::new(alloc));
+    if text.is_empty() {
+        shell.refuses(OPENING, store, log)
+    } else {
+        shell.prints(OPENING, store, 0, text)
+    }
 }
 
 /// The log that the script leaves. It is empty where it can't be read.
@@ -37,16 +38,17 @@ where
     R: Threads + Wait + Sync + AllocGlobal,
 {
     let alloc = shell.alloc();
-    let mut ended = run_script(shell, Vec::new(alloc));
-    log_of(alloc, &mut ended.store).unwrap_or(Vec::new(alloc))
+    let mut ended = run_script(shell, empty(alloc));
+    let log = log_of(alloc, &mut ended.store).unwrap_or(Vec::new(alloc));
+    drop(ended);
+    log
 }
 
 /// A log is cut: what a creation may have left is created, any other is no store.
-pub fn see_cut_logs<R>(shell: &Shell<'_, R>, tally: &mut Tally)
+fn see_cut_logs<R>(shell: &Shell<'_, R>, log: &[u8], tally: &mut Tally)
 where
     R: Threads + Wait + Sync + Print + AllocGlobal,
 {
-    let log = script_log(shell);
     for len in 0..log.len() {
         if len <= 200 || len % 401 == 0 {
             let text = if len <= 17 { NEW } else { b"" };
@@ -54,7 +56,7 @@ where
             tally.see(shell.rt, holds, "a log that is cut to bytes", len as u64);
         }
     }
-    let holds = ends_so(shell, &log, WHOLE);
+    let holds = ends_so(shell, log, WHOLE);
     tally.see(shell.rt, holds, "a log of bytes", log.len() as u64);
 }
 
@@ -84,17 +86,26 @@ fn put(log: &mut [u8], place: usize, byte: u8) -> u8 {
 }
 
 /// A byte of a log is 99.
-pub fn see_other_bytes<R>(shell: &Shell<'_, R>, tally: &mut Tally)
+fn see_other_bytes<R>(shell: &Shell<'_, R>, log: &mut [u8], tally: &mut Tally)
+where
+    R: Threads + Wait + Sync + Print + AllocGlobal,
+{
+    let long = log.len() > REPLACED;
+    tally.see(shell.rt, long, "a log is longer than", REPLACED as u64);
+    for place in 0..REPLACED {
+        let old = put(log, place, 99);
+        let holds = ends_so(shell, log, printed_over(place));
+        put(log, place, old);
+        tally.see(shell.rt, holds, "a log with another byte at", place as u64);
+    }
+}
+
+/// The log that the script leaves is cut, and gets another byte.
+pub fn see_logs<R>(shell: &Shell<'_, R>, tally: &mut Tally)
 where
     R: Threads + Wait + Sync + Print + AllocGlobal,
 {
     let mut log = script_log(shell);
-    let long = log.len() > REPLACED;
-    tally.see(shell.rt, long, "a log is longer than", REPLACED as u64);
-    for place in 0..REPLACED {
-        let old = put(&mut log, place, 99);
-        let holds = ends_so(shell, &log, printed_over(place));
-        put(&mut log, place, old);
-        tally.see(shell.rt, holds, "a log with another byte at", place as u64);
-    }
+    see_cut_logs(shell, &log, tally);
+    see_other_bytes(shell, &mut log, tally);
 }

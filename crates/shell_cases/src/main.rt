@@ -58,11 +58,8 @@ where
     R: Threads + Wait + Sync + Print + AllocGlobal,
 {
     stops::see_stops(shell, tally)?;
-    faults::see_failing_calls(shell, tally);
-    faults::see_failing_reads(shell, tally);
-    faults::see_failing_writes(shell, tally);
-    logs::see_cut_logs(shell, tally);
-    logs::see_other_bytes(shell, tally);
+    faults::see_faults(shell, tally);
+    logs::see_logs(shell, tally);
     streams::see_a_long_script(shell, tally);
     streams::see_streams(shell.rt, tally);
     calls::see_calls(shell.rt, tally);

@@ -108,6 +108,29 @@ where
         let out = MemorySink::new(self.rt.alloc(), Vec::new(self.rt.alloc()));
         self.run(Script::new(script, PIECE, 0), out, store)
     }
+
+    /// Whether a run of a script ends with this status and prints this.
+    pub fn prints<D>(&self, script: &[u8], store: D, status: u8, text: &[u8]) -> bool
+    where
+        D: Disk + Send + Drop,
+    {
+        let ended = self.run_on(script, store);
+        let so = ended.status == status && ended.out.bytes() == text;
+        drop(ended);
+        so
+    }
+
+    /// Whether a run of a script finds that the files are no store: it prints nothing, and leaves this log.
+    pub fn refuses<D>(&self, script: &[u8], store: D, log: &[u8]) -> bool
+    where
+        D: Disk + Send + Drop,
+    {
+        let mut ended = self.run_on(script, store);
+        let unchanged = has_log(self.rt.alloc(), &mut ended.store, log);
+        let silent = ended.status == 4 && ended.out.bytes().is_empty();
+        drop(ended);
+        unchanged && silent
+    }
 }
 
 /// A list of this call alone. It is empty where there is no memory, so that no call fails.
@@ -122,6 +145,11 @@ pub fn empty(alloc: Global) -> MemoryDisk {
     MemoryDisk::new(alloc, Vec::new(alloc))
 }
 
+/// A device of which this call fails.
+pub fn failing(alloc: Global, call: u64) -> MemoryDisk {
+    MemoryDisk::new(alloc, only(alloc, call))
+}
+
 /// A device of which these calls fail, and whose log has these bytes. One that is too long is left out.
 pub fn holding(alloc: Global, log: &[u8], fails: Vec<u64>) -> MemoryDisk {
     let mut disk = MemoryDisk::new(alloc, fails);
@@ -132,7 +160,7 @@ pub fn holding(alloc: Global, log: &[u8], fails: Vec<u64>) -> MemoryDisk {
 }
 
 /// The bytes of the log. None where they can't be read.
-pub fn log_of(alloc: Global, disk: &mut MemoryDisk) -> Option<Vec<u8>> {
+pub fn log_of<D: Disk>(alloc: Global, disk: &mut D) -> Option<Vec<u8>> {
     let Ok(len) = disk.length(File::Log) else {
         return None;
     };
@@ -149,7 +177,7 @@ pub fn log_of(alloc: Global, disk: &mut MemoryDisk) -> Option<Vec<u8>> {
 }
 
 /// Whether the log has these bytes.
-pub fn has_log(alloc: Global, disk: &mut MemoryDisk, log: &[u8]) -> bool {
+pub fn has_log<D: Disk>(alloc: Global, disk: &mut D, log: &[u8]) -> bool {
     match log_of(alloc, disk) {
         Some(bytes) => bytes.as_slice() == log,
         None => false,

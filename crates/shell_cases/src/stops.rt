@@ -1,10 +1,10 @@
 // What runs of inserts, updates, deletes and a vacuum leave on a device, where a crash or a failing call cuts them
 // short.
-use crate::runs::{Ended, Shell, image_at, only};
+use crate::runs::{Ended, Shell, empty, failing, image_at};
 use crate::short::expanded;
 use crate::tally::Tally;
 use anyhow::Result;
-use disk_trait::MemoryDisk;
+use disk_trait::{Disk, MemoryDisk};
 use std::sync::Wait;
 use std::thread::Threads;
 
@@ -77,22 +77,32 @@ fn lines_after(text: &str, done: usize, count: usize) -> &[u8] {
     lines.as_bytes().get(..len).unwrap_or(b"")
 }
 
-/// A run of the lines of a text after the first `done`, so many, over a device of which these calls fail; those before
-/// them are in a run of their own, where there are any.
-fn run_after<'a, R>(
-    shell: &Shell<'_, R>,
-    text: &'a str,
-    fails: Vec<u64>,
-    done: usize,
-    count: usize,
-) -> Ended<'a, MemoryDisk>
+/// A device after a run of the first `done` lines of a text, where these are any.
+fn begun<R, D>(shell: &Shell<'_, R>, text: &str, store: D, done: usize) -> D
 where
     R: Threads + Wait + Sync + AllocGlobal,
+    D: Disk + Send + Drop,
 {
-    let mut store = MemoryDisk::new(shell.alloc(), fails);
-    if done > 0 {
-        store = shell.run_on(lines_after(text, 0, done), store).store;
+    if done == 0 {
+        return store;
     }
+    shell.run_on(lines_after(text, 0, done), store).store
+}
+
+/// A run of so many lines of a text after the first `done`; those are in a run of their own before it, where there are
+/// any.
+fn run_after<'a, R, D>(
+    shell: &Shell<'_, R>,
+    text: &'a str,
+    store: D,
+    done: usize,
+    count: usize,
+) -> Ended<'a, D>
+where
+    R: Threads + Wait + Sync + AllocGlobal,
+    D: Disk + Send + Drop,
+{
+    let store = begun(shell, text, store, done);
     shell.run_on(lines_after(text, done, count), store)
 }
 
@@ -101,8 +111,11 @@ fn calls_after<R>(shell: &Shell<'_, R>, text: &str, done: usize, count: usize) -
 where
     R: Threads + Wait + Sync + AllocGlobal,
 {
-    let fails = Vec::new(shell.alloc());
-    run_after(shell, text, fails, done, count).store.calls()
+    let store = empty(shell.alloc());
+    let ended = run_after(shell, text, store, done, count);
+    let calls = ended.store.calls();
+    drop(ended);
+    calls
 }
 
 /// Whether this is printed after so many statements, or after so many more.
@@ -115,9 +128,10 @@ fn is_printed(text: &[u8], least: usize, more: usize) -> bool {
 }
 
 /// Whether a store opens and goes on, as after so many statements, or after so many more.
-fn goes_on<R>(shell: &Shell<'_, R>, store: MemoryDisk, least: usize, more: usize) -> bool
+fn goes_on<R, D>(shell: &Shell<'_, R>, store: D, least: usize, more: usize) -> bool
 where
     R: Threads + Wait + Sync + AllocGlobal,
+    D: Disk + Send + Drop,
 {
     let run = shell.run_on(GO_ON, store);
     run.status == 0 && is_printed(run.out.bytes(), least, more)
@@ -171,40 +185,65 @@ fn waiting(text: &str, answered: usize) -> usize {
     usize::from(lines_after(text, answered.saturating_sub(1), 1) == VACUUM)
 }
 
-/// A stop at each moment of a run of inserts, an update and a delete, and of a second one with a vacuum too. Each
-/// statement that was answered by then is there, but for one that waits, and no other but the one that was under way.
+/// The stops at a moment of the runs over a device. Each statement that was answered by then is there, but for one that
+/// waits, and no other but the one that was under way.
+fn see_stops_at<R>(
+    shell: &Shell<'_, R>,
+    disk: &MemoryDisk,
+    moment: u64,
+    answered: usize,
+    waits: usize,
+    tally: &mut Tally,
+)
+where
+    R: Threads + Wait + Sync + Print + AllocGlobal,
+{
+    let least = answered.saturating_sub(waits);
+    let more = waits.saturating_add(1);
+    for pick in 0..16 {
+        let holds = stops_so(shell, disk, moment, pick, least, more);
+        tally.see(shell.rt, holds, "a stop at moment", moment);
+    }
+}
+
+/// A stop at each moment of the runs over a device, of which these were the ends of the statements.
+fn see_moments<R>(
+    shell: &Shell<'_, R>,
+    text: &str,
+    disk: &MemoryDisk,
+    ends: &[u64],
+    tally: &mut Tally,
+)
+where
+    R: Threads + Wait + Sync + Print + AllocGlobal,
+{
+    for moment in 0..=disk.calls() {
+        let answered = answered_by(ends, moment);
+        let waits = waiting(text, answered);
+        see_stops_at(shell, disk, moment, answered, waits, tally);
+    }
+}
+
+/// A stop at each moment of a run of inserts, an update and a delete, and of a second one with a vacuum too.
 fn see_each_stop<R>(shell: &Shell<'_, R>, text: &str, tally: &mut Tally)
 where
     R: Threads + Wait + Sync + Print + AllocGlobal,
 {
     let ends = ends(shell, text);
-    let ended = run_after(shell, text, Vec::new(shell.alloc()), FIRST, SECOND);
-    for moment in 0..=ended.store.calls() {
-        let answered = answered_by(&ends, moment);
-        let waits = waiting(text, answered);
-        let least = answered.saturating_sub(waits);
-        for pick in 0..16 {
-            let holds = stops_so(
-                shell,
-                &ended.store,
-                moment,
-                pick,
-                least,
-                waits.saturating_add(1),
-            );
-            tally.see(shell.rt, holds, "a stop at moment", moment);
-        }
-    }
+    let ended = run_after(shell, text, empty(shell.alloc()), FIRST, SECOND);
+    see_moments(shell, text, &ended.store, &ends, tally);
+    drop(ended);
 }
 
-/// Whether a run of the statement after the first `done`, in which this call of the device fails, ends with status 3,
+/// Whether a run of the statement after the first `done`, in which a call of the device fails, ends with status 3,
 /// has printed nothing where the call is of the opening, else that the device failed, and the next run opens what is
 /// left and goes on.
-fn fails_at<R>(shell: &Shell<'_, R>, text: &str, call: u64, done: usize, opening: bool) -> bool
+fn fails_so<R, D>(shell: &Shell<'_, R>, text: &str, store: D, done: usize, opening: bool) -> bool
 where
     R: Threads + Wait + Sync + AllocGlobal,
+    D: Disk + Send + Drop,
 {
-    let run = run_after(shell, text, only(shell.alloc(), call), done, 1);
+    let run = run_after(shell, text, store, done, 1);
     let reply: &[u8] = if opening { b"" } else { FAILED_REPLY };
     let so = run.status == 3 && run.out.bytes() == reply;
     so & goes_on(shell, run.store, done, usize::from(!opening))
@@ -223,7 +262,8 @@ where
     let opened = calls_after(shell, text, done, 0);
     let all = calls_after(shell, text, done, 1);
     for call in before.saturating_add(1)..=all {
-        let holds = fails_at(shell, text, call, done, call <= opened);
+        let store = failing(shell.alloc(), call);
+        let holds = fails_so(shell, text, store, done, call <= opened);
         tally.see(shell.rt, holds, "a statement whose run fails at call", call);
     }
 }

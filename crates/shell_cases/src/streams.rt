@@ -48,6 +48,7 @@ where
     let ended = shell.run(script, out, empty(alloc));
     let read = ended.script.statement.is_empty() && ended.script.zeros == 0;
     let holds = ended.status == 8 && read && ended.out.bytes().is_empty();
+    drop(ended);
     tally.see(shell.rt, holds, "a script of more than a gibibyte", 0);
 }
 

@@ -13,6 +13,11 @@ pub struct Tally {
     pub differ: u64,
 }
 
+/// Prints of a case or a check that something differs: which, its number, and a text.
+pub fn tell(rt: &impl Print, name: &str, what: &str, number: u64, text: &str) {
+    let _ = println!(rt; "{name}: {what} {number} {text}");
+}
+
 impl Tally {
     /// Counts what differs.
     pub fn note(&mut self, agrees: bool) {
@@ -26,7 +31,7 @@ impl Tally {
         self.checks = self.checks.saturating_add(1);
         self.note(holds);
         if !holds {
-            let _ = println!(rt; "{what} {number}");
+            tell(rt, "a check", what, number, "");
         }
     }
 }
