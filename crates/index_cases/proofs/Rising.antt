@@ -1,7 +1,7 @@
 -- Items that one more comes after.
-use Rattle.std.proofs.Common.{◌≡◌, ◌<◌, ℕ, List, [], ◌∷◌, ◌++◌}
+use Rattle.std.proofs.Common.{◌<◌, ℕ, List, [], ◌∷◌, ◌++◌}
 use Rattle.page_types.specs.Numbers.{item_limit}
-use Rattle.page_types.specs.Items.{AreItems, AreItemsFrom}
+use Rattle.page_types.specs.Items.{AreItemsFrom}
 
 -- a number is above all of the items, and above this one where there are none
 abbrev pub IsAboveFrom : ℕ → List ℕ → ℕ → Type 0

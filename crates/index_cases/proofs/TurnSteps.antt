@@ -1,23 +1,26 @@
 -- What each step leaves of a scan and of a task that take turns.
-use Rattle.std.proofs.Common.{◌≡◌, ◌≤◌, ◌∙◌, ℕ, List, refl, sym, ap, subst, arith, replicate, slice_set}
-use Rattle.std.specs.Prelude.{Option, Some, None, Result, Ok, Err, OnOk}
+use Rattle.std.proofs.Common.{◌≡◌, ◌≤◌, ◌∙◌, ℕ, Bool, true, false, List, refl, sym, ap, subst, arith, replicate}
+use Rattle.std.proofs.Common.{slice_set}
+use Rattle.std.specs.Prelude.{Option, Some, None, Result, Ok, Err, OnOk, IfSome, MatchOption}
 use Rattle.disk_trait.specs.declared.device.Disk.{Ghosts as Disk}
 use Rattle.snap_pins.specs.declared.TheConstants.{PLACES}
 use Rattle.snap_pins.specs.declared.Pin.{Pin}
-use Rattle.snap_pins.specs.Taken.{IsFree}
+use Rattle.snap_pins.specs.Taken.{IsPinned, IsFree}
 use Rattle.buffer_frames.specs.Frames.{FramesValue}
-use Rattle.buffer_frames.specs.Passes.{IsPassOf, IsWhole, HasAdded, HasClaimed, HasPinned, PassRises, split_of}
+use Rattle.buffer_frames.specs.Passes.{IsPassOf, IsWhole, HasAdded, HasClaimed, HasPinned, PassRises, split_of, in_use}
 use Rattle.buffer_frames.specs.declared.pass.Pass.{Pass}
+use Rattle.buffer_frames.specs.declared.pass.Pinned.{Pinned}
 use Rattle.gin_opclass.specs.Class.{meaning}
 use Rattle.ts_match.specs.Meaning.{Holds}
 use Rattle.ts_query.specs.Queries.{Query}
 use Rattle.ts_match.specs.Judging.{judged}
 use Rattle.ts_match.specs.Class.{asked_of, reads_all}
-use Rattle.gin_scan.specs.Calls.{ReadsOn, BeginsReading, AddsNothing}
+use Rattle.gin_scan.specs.Calls.{ReadsOn, BeginsReading, EndsReading, AddsNothing, GivesUp}
 use Rattle.gin_scan.specs.Laws.{ScansGoOn}
 use Rattle.gin_scan.specs.Scanning.{IsScanning, Scanning}
 use Rattle.gin_scan.specs.TextScans.{IsFor}
 use Rattle.gin_scan.specs.declared.scan.Scan.{Scan}
+use Rattle.gin_scan.specs.declared.scan_core.ScanCore.{ScanCore}
 use Rattle.gin_place.specs.Placing.{HasRight}
 use Rattle.gin_place.specs.Going.{WorksOn}
 use Rattle.gin_cleanup.specs.Going.{CleansOn}
@@ -25,7 +28,7 @@ use Rattle.gin_vacuum.specs.Going.{VacuumsOn}
 use Rattle.index_cases.specs.Turns.{AreFresh, Scans, LetScan, Grows, MayKeep, Keeps}
 use Rattle.index_cases.specs.declared.upkeep.Upkeep.{Upkeep}
 use Rattle.index_cases.proofs.Rights.{right_stays}
-use Rattle.index_cases.proofs.Turning.{pass_on, other_still, at_still, one_free}
+use Rattle.index_cases.proofs.Turning.{pass_on, other_still, at_still, one_free, set_free}
 
 -- what holds of any result holds of a value
 pub on_ok : {A E : Type 0} (r : Result A E) (X : Type 0) → X → OnOk r X
@@ -36,12 +39,13 @@ on_ok (Err e) X x = tt
 
 -- it may go on after a call that keeps its right
 pub may_on : {D : Type 0} (f g : FramesValue D) (p q : Pass) → MayKeep f p → IsPassOf g q → q.held ≡ 0
-    → q.work ≡ p.work → PassRises p q → q.pin ≡ p.pin → q.xid ≡ p.xid → MayKeep g q
-may_on f g p q was is_pass none work rises pin xid = record {
+    → q.work ≡ p.work → PassRises p q → q.pin ≡ p.pin → q.xid ≡ p.xid → q.room ≡ p.room → MayKeep g q
+may_on f g p q was is_pass none work rises pin xid room = record {
   is_pass = is_pass;
   right = right_stays p q was.right work rises.seen;
   none = none;
   idle = (pin ∙ was.idle.0, xid ∙ was.idle.1);
+  room = room ∙ was.room;
 }
 
 pub grows_still : {D : Type 0} (f : FramesValue D) → Grows f f
@@ -53,6 +57,21 @@ grows_then f g h first second = record {
   flushed = omega (arith, first.flushed, second.flushed);
   longer = omega (arith, first.longer, second.longer);
 }
+
+-- a place for a snapshot is free, once one may have been given up
+free_then : {D : Type 0} (b : Bool) (f g : FramesValue D) (p p' : Pass) → GivesUp b f p g p' → IsPassOf f p
+    → (place : ℕ) × IsFree f.pins place → (place : ℕ) × IsFree g.pins place
+free_then true f g p p' gives of free = go p.pin of.pin gives.1
+  where
+    go : (o : Option Pinned) → IfSome o (λ s. IsPinned f.pins s.place (in_use s) × (s.length ≤ p.seen))
+        → MatchOption o (g.pins ≡ f.pins) (λ s. g.pins ≡ slice_set f.pins s.place None)
+        → (place : ℕ) × IsFree g.pins place
+    go None pinned same = subst (λ (l : List (Option Pin)). (place : ℕ) × IsFree l place) (sym same) free
+    go (Some s) pinned same =
+        subst (λ (l : List (Option Pin)). (place : ℕ) × IsFree l place) (sym same)
+        (s.place, set_free f.pins s.place (in_use s) pinned.0)
+free_then false f g p p' gives of free =
+    subst (λ (l : List (Option Pin)). (place : ℕ) × IsFree l place) (sym gives.1) free
 
 module _ {D : Type 0} (device : Disk D) where
   -- ── where a task takes a step ──
@@ -74,6 +93,7 @@ module _ {D : Type 0} (device : Disk D) where
         query = was.query;
         walk = law scan.query.now scan.core f g p p kinds added was.scanning.is_pass is refl was.walk;
         idle = was.idle;
+        room = was.room;
       }
 
   -- so they do where it only reads, where it cleans and where it vacuums
@@ -90,13 +110,13 @@ module _ {D : Type 0} (device : Disk D) where
   -- its pass may go on
   module _ (f g : FramesValue D) (p q : Pass) (was : MayKeep f p) (none : q.held ≡ 0) where
     pub works_may : (kinds : List ℕ) → WorksOn device f p g q kinds → MayKeep g q
-    works_may kinds on = may_on f g p q was on.is_pass none on.work on.rises on.pin on.xid
+    works_may kinds on = may_on f g p q was on.is_pass none on.work on.rises on.pin on.xid on.room
 
     pub cleans_may : (kinds : List ℕ) → CleansOn device f p g q kinds → MayKeep g q
-    cleans_may kinds on = may_on f g p q was on.is_pass none on.work on.rises on.pin on.xid
+    cleans_may kinds on = may_on f g p q was on.is_pass none on.work on.rises on.pin on.xid on.room
 
     pub vacuums_may : (kinds : List ℕ) → VacuumsOn device f p g q kinds → MayKeep g q
-    vacuums_may kinds on = may_on f g p q was on.is_pass none on.work on.rises on.pin on.xid
+    vacuums_may kinds on = may_on f g p q was on.is_pass none on.work on.rises on.pin on.xid on.room
 
   pub works_grows : (f g : FramesValue D) (p q : Pass) (kinds : List ℕ) → WorksOn device f p g q kinds → Grows f g
   works_grows f g p q kinds on = record {
@@ -116,6 +136,7 @@ module _ {D : Type 0} (device : Disk D) where
       right = was.may.right;
       none = was.may.none;
       idle = was.may.idle;
+      room = was.may.room;
     };
     at = at_still device was.silent f g q t.dead t.stage was.at;
   }
@@ -127,6 +148,13 @@ module _ {D : Type 0} (device : Disk D) where
       task_stays f g q t reads.adds
       (subst (λ (l : List (Option Pin)). (place : ℕ) × IsFree l place) (sym reads.pins)
       (was.may.is_pass.free was.may.idle.0)) was
+
+  -- where the scan ends
+  pub task_waits_end : (s : ScanCore) (f g : FramesValue D) (p p' q : Pass) (t : Upkeep)
+      → EndsReading device s f p g p' → IsPassOf f p → Keeps device f q t → Keeps device g q t
+  task_waits_end s f g p p' q t ends of was =
+      task_stays f g q t ends.adds
+      (free_then s.took_pin f g p p' ends.pin of (was.may.is_pass.free was.may.idle.0)) was
 
   -- where the scan begins, by a snapshot, and there was none
   pub task_shares : (f g : FramesValue D) (p q : Pass) (n : ℕ) (t : Upkeep) → f.pins ≡ replicate PLACES None
@@ -195,6 +223,7 @@ part_claims f g p q q' whole split claimed is_pass = record {
     ap (λ (x : Pass). x.pin) claimed.pass ∙ ap (λ (x : Pass). x.pin) split,
     ap (λ (x : Pass). x.xid) claimed.pass ∙ ap (λ (x : Pass). x.xid) split,
   );
+  room = ap (λ (x : Pass). x.room) claimed.pass ∙ ap (λ (x : Pass). x.room) split;
 }
 
 -- that of the scan stays one, once the task has begun
@@ -216,11 +245,12 @@ task_begins device f g h k p p' p'' q q' q'' n t fresh claimed grows keeps pinne
 pub scans_begun : {D : Type 0} (device : Disk D) (f : FramesValue D) (p : Pass) (q : Query) (s : Scan)
     → IsScanning f p s.core → IsFor q s
     → Scanning device (meaning asked_of reads_all Holds judged) q f p s.core
-    → (p.xid ≡ None) × (p.work ≡ None) → Scans device f p s
-scans_begun device f p q s scanning asked walk idle = record {
+    → (p.xid ≡ None) × (p.work ≡ None) → p.room ≡ 15 → Scans device f p s
+scans_begun device f p q s scanning asked walk idle room = record {
   scanning = scanning;
   query = subst (λ (x : Query). IsFor x s) (sym asked.query) asked;
   walk = subst (λ (x : Query). Scanning device (meaning asked_of reads_all Holds judged) x f p s.core)
       (sym asked.query) walk;
   idle = idle;
+  room = room;
 }

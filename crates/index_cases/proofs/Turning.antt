@@ -1,7 +1,7 @@
 -- A step of one pass leaves the other what it was.
-use Rattle.std.proofs.Common.{◌≡◌, ◌≢◌, ◌≤◌, ◌<◌, ◌∙◌, ℕ, zero, suc, List, length, max, refl}
+use Rattle.std.proofs.Common.{◌≡◌, ◌≢◌, ◌≤◌, ◌<◌, ◌∙◌, ℕ, zero, suc, List, max, refl}
 use Rattle.std.proofs.Common.{sym, ap, subst, inl, inr, arith}
-use Rattle.std.proofs.lemmas.List.{get_or-set_other, length-set}
+use Rattle.std.proofs.lemmas.List.{get_or-set_same, get_or-set_other, length-set}
 use Rattle.std.proofs.lemmas.Option.{slice_get_within, get_or_from_slice_get, slice_get-get_or}
 use Rattle.std.specs.Prelude.{Option, Some, None, Bool, IfSome, slice_set}
 use Rattle.disk_trait.specs.declared.device.Disk.{Ghosts as Disk}
@@ -178,6 +178,7 @@ module _ {D : Type 0} (device : Disk D) where
     }
 
     pub at_still : (dead : List ℕ) (s : Stage) → IsAt device f p dead s → IsAt device g p dead s
+    at_still dead (stage.Deleting name) is = tt
     at_still dead stage.Seeking is = tt
     at_still dead (stage.Cleaning c) is = (is.0, cleaning_still is.0 c is.1)
     at_still dead (stage.Sweeping s) is = sweeping_still dead s is
@@ -192,6 +193,13 @@ other_free xs i j v other free =
     slice_get-get_or (slice_set xs i v) j None
     (subst (λ (n : ℕ). j < n) (sym (length-set xs i v)) (slice_get_within xs j None free))
     ∙ ap Some (get_or-set_other xs i j v None other ∙ get_or_from_slice_get xs j None None free)
+
+-- a place is free, once its snapshot is given up
+pub set_free : (xs : List (Option Pin)) (i : ℕ) (pin : Pin) → IsPinned xs i pin → IsFree (slice_set xs i None) i
+set_free xs i pin is =
+    let within = slice_get_within xs i (Some pin) is in
+    slice_get-get_or (slice_set xs i None) i None
+    (subst (λ (n : ℕ). i < n) (sym (length-set xs i None)) within) ∙ ap Some (get_or-set_same xs i None None within)
 
 -- one is left of two
 pub one_free : (xs : List (Option Pin)) (i : ℕ) (v : Option Pin) → IsFree xs 0 → IsFree xs 1

@@ -27,12 +27,13 @@ pub record AreFresh {D : Type 0} (f : FramesValue D) (pass : Pass) : Type 0 wher
   pub free : IsRightFree f
   pub pins : f.pins ≡ replicate PLACES None
 
--- the pass scans, without a transaction or the right of maintenance
+-- the pass scans, without a transaction or the right of maintenance, by all rooms but one
 pub record Scans {D : Type 0} (device : Disk D) (f : FramesValue D) (pass : Pass) (scan : Scan) : Type 0 where
   pub scanning : IsScanning f pass scan.core
   pub query : IsFor scan.query.now scan
   pub walk : Scanning device (meaning asked_of reads_all Holds judged) scan.query.now f pass scan.core
   pub idle : (pass.xid ≡ None) × (pass.work ≡ None)
+  pub room : pass.room ≡ 15
 
 -- each scan goes on from the old frames to the new ones
 abbrev pub LetScan : {D : Type 0} → Disk D → FramesValue D → FramesValue D → Type 0
@@ -44,15 +45,17 @@ pub record Grows {D : Type 0} (old new : FramesValue D) : Type 0 where
   pub flushed : old.journal.flushed ≤ new.journal.flushed
   pub longer : old.journal.state.records ≤ new.journal.state.records
 
--- the pass may keep the index, without a snapshot or a transaction
+-- the pass may keep the index, without a snapshot or a transaction, by one room
 pub record MayKeep {D : Type 0} (f : FramesValue D) (pass : Pass) : Type 0 where
   pub is_pass : IsPassOf f pass
   pub right : HasRight pass
   pub none : pass.held ≡ 0
   pub idle : (pass.pin ≡ None) × (pass.xid ≡ None)
+  pub room : pass.room ≡ 1
 
 -- how far a part of a task has come
 abbrev pub IsAt : {D : Type 0} → Disk D → FramesValue D → Pass → List ℕ → Stage → Type 0
+IsAt device f pass dead (stage.Deleting name) = ⊤
 IsAt device f pass dead stage.Seeking = ⊤
 IsAt device f pass dead (stage.Cleaning cleanup) = (from : ℕ) × IsCleaning device f pass from cleanup
 IsAt device f pass dead (stage.Sweeping sweeping) = IsSweeping device f pass dead sweeping

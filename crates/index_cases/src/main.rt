@@ -5,6 +5,7 @@
 #![tactic(auto)]
 
 mod cleaning;
+mod deleting;
 mod documents;
 mod failing;
 mod judging;
@@ -42,11 +43,12 @@ fn run_row(bench: &Bench<'_>, disk: &mut MemoryDisk, row: Row<'_>) -> Result<()>
     match row.verb {
         "new" => *disk = MemoryDisk::new(alloc, Vec::new(alloc)),
         "log" => put(alloc, disk, row)?,
-        "insert" | "search" | "delete" => stores::run(bench, disk, row)?,
+        "insert" | "search" | "delete" | "slot" => stores::run(bench, disk, row)?,
         "clean" | "place" | "vacuum" => working::run(bench, disk, row)?,
         "fail" => failing::run(bench, disk, row)?,
         "judge" => judging::run(bench, disk, row)?,
         "turn" => turns::run(bench, disk, row)?,
+        "during" => turns::run_once(bench, disk, row)?,
         _ => scans::run(bench, disk, row)?,
     }
     Ok(())

@@ -16,9 +16,13 @@
 ///
 /// `turn` has a task and a query: a scan for it and the task take turns, by two passes, after each number of the scan's
 /// steps below that of the row, with each of some numbers of those of the task before each other one; it is printed in
-/// how many such runs the scan finds something else than alone. The task `clean` is a cleanup that has begun before the
-/// scan; `vacuum` is a whole vacuum that begins after it; `sweep` takes out what was dead before the scan began, as far
-/// as it has no linked row, and is then a cleanup.
+/// how many such runs the scan finds something else than alone, and how many items the task found dead. The task
+/// `clean` is a cleanup that has begun before the scan; `vacuum` is a whole vacuum that begins after it; `sweep` takes
+/// out what was dead before the scan began, as far as it has no linked row, and is then a cleanup; `delete` deletes the
+/// first document that the scan finds, after it has begun, and is then a whole vacuum, to which the document is not
+/// dead. `during` has a task and a query too: the scan begins, all of the task comes, and then the scan goes on to its
+/// end; the device is left so. `slot` has a query: the slot of the last document that is found is printed, and its
+/// serial.
 ///
 /// `delete` has a number and a query: of the documents that are found the first one is deleted, and then each that is
 /// so many after it; the serial of the last one is printed too. `vacuum` takes out what is dead; its words are those of
@@ -31,6 +35,9 @@
 ///
 /// No head is read for a word that no document has. 816 rows of one key of a letter have room on a page, and 204 heads
 /// with their vectors: so 2,000 documents have 3 pages of the list and 10 heap pages, and the metapage is read too.
+///
+/// A document is deleted while a scan for it has its snapshot: the vacuum then leaves its slot and its item, and the
+/// scan finds it. To the next vacuum it is dead, and the next insert takes its slot.
 ///
 /// In the log are three inserts: the second one, of `b:1`, is aborted when its row is linked. The row stays, and the
 /// document is never found.
@@ -310,6 +317,25 @@ pub(crate) const ROWS: &str = "\
     insert 4 4 a:1 b:1 | inserts of a and b
     delete 1 1 2 !z | deletions of each other one
     fail 1 1 vacuum | items of a vacuum
+    new
+    insert 8 8 long | inserts of long words
+    clean 1 1 | records of a cleanup
+    insert 4 4 long | inserts of long words
+    turn 99 99 delete !z | without z, one of which is deleted
+    new
+    insert 1 1 a:1 | insert of a
+    slot 1 1 a | is the slot of the document with a
+    insert 3 3 a:1 | inserts of a
+    clean 1 1 | records of a cleanup
+    during 1 1 delete a | with a, one of which is deleted
+    search 1 1 a | with a
+    tree 1 1 a | items of a
+    during 1 1 vacuum a | with a
+    tree 1 1 a | items of a
+    search 1 1 a | with a
+    insert 1 1 b:1 | insert of b
+    slot 1 1 b | is the slot of the document with b
+    judge 1 1 !b | without b to the model
     new
     insert 1000 20000 | inserts of eight words
     search 1 100 w241 | with w241

@@ -90,6 +90,17 @@ fn search_often(
     Some(found)
 }
 
+/// The slot of the last document that is found, and its serial.
+fn last_slot(store: &mut Db<MemoryDisk>, pass: &mut Pass, query: &TsQuery) -> Option<(usize, u64)>
+    requires session { IsSession store.old pass.old }
+    ensures session { IsSession store.new pass.new }
+    ensures room { pass.new.room ≡ pass.old.room }
+{
+    let names = search(store, pass, query).ok()?;
+    let name = names.last()?;
+    Some((usize::from(name.slot), name.serial))
+}
+
 /// Deletes a document.
 fn delete(store: &mut Db<MemoryDisk>, pass: &mut Pass, name: Name) -> result::Result<(), DbError>
     requires session { IsSession store.old pass.old }
@@ -144,7 +155,7 @@ fn delete_some(
     delete_each(store, pass, &names, number(step))
 }
 
-/// Inserts, deletes or searches so often, by the words of a row.
+/// Inserts, deletes or searches so often, or asks for a slot, by the words of a row.
 fn call(
     alloc: Global,
     store: &mut Db<MemoryDisk>,
@@ -163,10 +174,13 @@ fn call(
         return delete_some(alloc, store, pass, row.words);
     }
     let query = TsQuery::parse(alloc, row.words).ok()?;
+    if row.verb == "slot" {
+        return last_slot(store, pass, &query);
+    }
     search_often(store, pass, &query, times)
 }
 
-/// The same, and prints how many documents are stored, deleted or found, and the serial of the last one.
+/// The same, and prints how many documents are stored, deleted or found, or the slot, and the serial of the last one.
 fn work_on(
     bench: &Bench<'_>,
     store: &mut Db<MemoryDisk>,

@@ -1,7 +1,8 @@
 // A scan and a cleanup or a vacuum in turn, by two passes over one store.
 ghost use Rattle.std.specs.Prelude.{◌≡◌, OnOk, IfOk, IfSome, false};
 ghost use Rattle.gin_scan.specs.Scanning.{IsAtEnd};
-ghost use Rattle.index_cases.specs.Turns.{AreFresh, Scans, Keeps};
+ghost use Rattle.buffer_frames.specs.Passes.{IsPassOf};
+ghost use Rattle.index_cases.specs.Turns.{AreFresh, Scans, Keeps, MayKeep};
 
 use crate::rows::{Row, word};
 use crate::silent::Silent;
@@ -125,6 +126,7 @@ impl<'a> Pair<'a> {
         requires scans { Scans D.Disk frames.old pass.old self.old.scan }
         requires keeps { Keeps D.Disk frames.old other.old self.old.upkeep }
         ensures scans { OnOk result (Scans D.Disk frames.new pass.new self.new.scan) }
+        ensures keeps { OnOk result (Keeps D.Disk frames.new other.new self.new.upkeep) }
         ensures end { OnOk result (IsAtEnd self.new.scan.core) }
     {
         for number in 0..MOST_STEPS {
@@ -134,6 +136,31 @@ impl<'a> Pair<'a> {
             }
         }
         Err(PlaceError::OutOfMemory)
+    }
+
+    /// Ends the scan: what it finds, how many steps were taken, and how many items the work beside it found dead.
+    fn close<D: Disk>(self, frames: &mut Frames<D>, pass: &mut Pass, other: &Pass) -> Turns
+        requires scans { Scans D.Disk frames.old pass.old self.scan }
+        requires keeps { Keeps D.Disk frames.old other.now self.upkeep }
+        requires end { IsAtEnd self.scan.core }
+        ensures pass { IsPassOf frames.new pass.new }
+        ensures other { MayKeep frames.new other.now }
+        ensures room { pass.new.room ≡ 15 }
+    {
+        let Pair {
+            scan,
+            upkeep,
+            steps,
+            beside,
+        } = self;
+        let names = scan.finish(frames, pass).names;
+        let dead = upkeep.dead.items().len();
+        Turns {
+            names,
+            steps,
+            beside,
+            dead,
+        }
     }
 }
 
@@ -172,9 +199,11 @@ struct Turns {
     steps: u32,
     /// Those of the work beside it.
     beside: u32,
+    /// How many items that work found dead.
+    dead: usize,
 }
 
-/// What a scan for a query finds that takes turns with a task.
+/// What a scan for a query finds that takes turns with a task. What they log is flushed then.
 fn take_turns<D: Disk>(
     alloc: Global,
     frames: &mut Frames<D>,
@@ -185,21 +214,14 @@ fn take_turns<D: Disk>(
 ) -> result::Result<Turns, PlaceError>
     requires silent { D.Disk.tells → ⊥ }
     requires fresh { AreFresh frames.old pass.old }
+    ensures { OnOk result (pass.new.room ≡ 16) }
 {
     let (mut other, mut pair) = begin(alloc, frames, pass, query, task)?;
     pair.go_on(alloc, frames, pass, &mut other, order)?;
-    let Pair {
-        scan,
-        steps,
-        beside,
-        ..
-    } = pair;
-    let names = scan.finish(frames, pass).names;
-    Ok(Turns {
-        names,
-        steps,
-        beside,
-    })
+    let turns = pair.close(frames, pass, &other);
+    frames.join(pass, other);
+    frames.flush_log(pass)?;
+    Ok(turns)
 }
 
 /// The pages of a device, and their pass, as they are opened.
@@ -212,17 +234,20 @@ fn fresh(alloc: Global, disk: Silent) -> Option<(Frames<Silent>, Pass)>
     }
 }
 
-/// What such a scan finds over what is synced of a device.
+/// What such a scan finds over what is synced of a device, and the device as both leave it.
 fn turns_on(
     alloc: Global,
     disk: &MemoryDisk,
     query: &TsQuery,
     task: Task,
     order: Order,
-) -> Option<Turns> {
+) -> Option<(Turns, MemoryDisk)> {
     let image = disk.image(alloc, disk.calls(), 0).ok()?;
     let (mut frames, mut pass) = fresh(alloc, Silent(image))?;
-    take_turns(alloc, &mut frames, &mut pass, query, task, order).ok()
+    match take_turns(alloc, &mut frames, &mut pass, query, task, order) {
+        Ok(turns) => Some((turns, frames.close(pass).0)),
+        Err(_) => None,
+    }
 }
 
 /// Counts of runs in which a scan and a task take turns.
@@ -234,15 +259,18 @@ struct Counts {
     differ: u64,
     /// The most steps of the task.
     beside: u32,
+    /// The most items that it finds dead.
+    dead: usize,
 }
 
 impl Counts {
     /// One run more, which comes to this.
-    fn note(&mut self, turns: Option<Turns>, alone: &[Name]) {
+    fn note(&mut self, turns: Option<(Turns, MemoryDisk)>, alone: &[Name]) {
         self.runs = self.runs.saturating_add(1);
-        match turns {
-            Some(turns) if turns.names.as_slice() == alone => {
+        match &turns {
+            Some((turns, _)) if turns.names.as_slice() == alone => {
                 self.beside = self.beside.max(turns.beside);
+                self.dead = self.dead.max(turns.dead);
             }
             _ => self.differ = self.differ.saturating_add(1),
         }
@@ -265,27 +293,72 @@ impl Counts {
     }
 }
 
-/// Prints how many names a scan for the query of a row finds, alone and in turn with the task of its first word: in how
-/// many runs, how many find other names, and how many steps the task takes at most. The scan takes none, one or more
-/// steps alone first, each number below that of the row.
-pub(crate) fn run(bench: &Bench<'_>, disk: &MemoryDisk, row: Row<'_>) -> Result<()> {
-    let alloc = bench.alloc();
-    let (name, text) = word(row.words);
-    let task = Task::of(name);
-    let query = TsQuery::parse(alloc, text)?;
-    let alone = Order {
+/// What a scan for a query finds alone, and how many steps it takes.
+fn alone(alloc: Global, disk: &MemoryDisk, query: &TsQuery) -> Result<Turns> {
+    let order = Order {
         lead: MOST_STEPS,
         share: 0,
     };
-    let Some(alone) = turns_on(alloc, disk, &query, task, alone) else {
-        bail!("a scan is refused");
-    };
+    match turns_on(alloc, disk, query, Task::Vacuum, order) {
+        Some((turns, _)) => Ok(turns),
+        None => bail!("a scan is refused"),
+    }
+}
+
+/// How many names a scan for the query of some words finds alone, and what is counted of the runs in which it takes so
+/// many steps or fewer first, and then turns with the task of the first word.
+fn count_turns(
+    alloc: Global,
+    disk: &MemoryDisk,
+    words: &str,
+    leads: u32,
+) -> Result<(usize, Counts)> {
+    let (name, text) = word(words);
+    let query = TsQuery::parse(alloc, text)?;
+    let alone = alone(alloc, disk, &query)?;
+    let task = Task::of(name, &alone.names);
     let mut counts = Counts::default();
-    for lead in 0..alone.steps.min(row.times(bench.is_timed())) {
+    for lead in 0..alone.steps.min(leads) {
         counts.note_shares(alloc, disk, &query, task, lead, &alone.names);
     }
-    bench.count(alone.names.len() as u64, row.title)?;
+    Ok((alone.names.len(), counts))
+}
+
+/// Prints how many names a scan for the query of a row finds, alone and in turn with the task of its first word: in how
+/// many runs, how many find other names, how many steps the task takes at most, and how many items it finds dead. The
+/// scan takes none, one or more steps alone first, each number below that of the row.
+pub(crate) fn run(bench: &Bench<'_>, disk: &MemoryDisk, row: Row<'_>) -> Result<()> {
+    let leads = row.times(bench.is_timed());
+    let (names, counts) = count_turns(bench.alloc(), disk, row.words, leads)?;
+    bench.count(names as u64, row.title)?;
     bench.count(counts.runs, "runs in turn")?;
     bench.count(counts.differ, "of them find something else")?;
-    bench.count(u64::from(counts.beside), "steps beside the scan at most")
+    bench.count(u64::from(counts.beside), "steps beside the scan at most")?;
+    bench.count(counts.dead as u64, "items found dead at most")
+}
+
+/// How many names a scan for the query of some words finds whose steps come after the whole task of the first word, and
+/// how many items the task finds dead. The device is left as both leave it.
+fn after_task(alloc: Global, disk: &mut MemoryDisk, words: &str) -> Result<(usize, usize)> {
+    let (name, text) = word(words);
+    let query = TsQuery::parse(alloc, text)?;
+    let task = Task::of(name, &alone(alloc, disk, &query)?.names);
+    let order = Order {
+        lead: 0,
+        share: MOST_STEPS,
+    };
+    match turns_on(alloc, disk, &query, task, order) {
+        Some((turns, left)) => {
+            *disk = left;
+            Ok((turns.names.len(), turns.dead))
+        }
+        None => bail!("a scan is refused"),
+    }
+}
+
+/// Prints both, for the words of a row.
+pub(crate) fn run_once(bench: &Bench<'_>, disk: &mut MemoryDisk, row: Row<'_>) -> Result<()> {
+    let (names, dead) = after_task(bench.alloc(), disk, row.words)?;
+    bench.count(names as u64, row.title)?;
+    bench.count(dead as u64, "items found dead")
 }

@@ -2,8 +2,10 @@
 ghost use Rattle.std.specs.Prelude.{ℕ, List, OnOk, IfOk};
 ghost use Rattle.index_cases.specs.Turns.{MayKeep, IsAt, Keeps, Grows, LetScan};
 
+use crate::deleting::delete;
 use buffer_frames::{Frames, Pass};
 use disk_trait::Disk;
+use engine::Name;
 use gin_cleanup::Cleanup;
 use gin_place::PlaceError;
 use gin_scan::scans_go_on;
@@ -23,14 +25,17 @@ pub(crate) enum Task {
     Vacuum,
     /// What was dead and had no linked row before the scan began is taken out, and then comes a cleanup.
     Sweep,
+    /// This document is deleted after the scan has begun, and then comes a whole vacuum.
+    Delete { name: Name },
 }
 
 impl Task {
-    /// The task of a word.
-    pub(crate) fn of(word: &str) -> Task {
-        match word {
-            "vacuum" => Task::Vacuum,
-            "sweep" => Task::Sweep,
+    /// The task of a word, for the documents that a scan finds.
+    pub(crate) fn of(word: &str, names: &[Name]) -> Task {
+        match (word, names.first()) {
+            ("vacuum", _) => Task::Vacuum,
+            ("sweep", _) => Task::Sweep,
+            ("delete", Some(name)) => Task::Delete { name: *name },
             _ => Task::Clean,
         }
     }
@@ -41,6 +46,7 @@ impl Task {
             Task::Clean => Part::Clean,
             Task::Vacuum => Part::Seek,
             Task::Sweep => Part::Sweep,
+            Task::Delete { name } => Part::Delete { name },
         }
     }
 }
@@ -48,6 +54,8 @@ impl Task {
 /// A part of a task.
 #[derive(Clone, Copy)]
 enum Part {
+    /// A document is deleted.
+    Delete { name: Name },
     /// What is dead is sought.
     Seek,
     /// The pending list is moved to the trees.
@@ -63,6 +71,7 @@ enum Part {
 /// The part at work, and how far it has come.
 #[derive(Drop)]
 pub(crate) enum Stage {
+    Deleting { name: Name },
     Seeking,
     Cleaning { cleanup: Cleanup },
     Sweeping { sweeping: Sweeping },
@@ -116,6 +125,7 @@ fn begun<D: Disk>(
 {
     scans_go_on::<D, TsQuery, MatchWork>();
     match part {
+        Part::Delete { name } => Ok(Stage::Deleting { name }),
         Part::Clean => {
             let cleanup = Cleanup::begin(alloc, frames, pass)?;
             Ok(Stage::Cleaning { cleanup })
@@ -162,8 +172,10 @@ impl Upkeep {
     /// The part that comes after the one at work.
     fn next(&self) -> Part {
         match (&self.stage, self.task) {
+            (Stage::Deleting { .. }, _) => Part::Seek,
             (Stage::Seeking, _) => Part::Clean,
             (Stage::Cleaning { .. }, Task::Vacuum) => Part::Sweep,
+            (Stage::Cleaning { .. }, Task::Delete { .. }) => Part::Sweep,
             (Stage::Sweeping { .. }, _) => Part::Free,
             (Stage::Freeing { .. }, Task::Sweep) => Part::Clean,
             _ => Part::End,
@@ -183,6 +195,10 @@ impl Upkeep {
     {
         scans_go_on::<D, TsQuery, MatchWork>();
         match &mut self.stage {
+            Stage::Deleting { name } => {
+                delete(alloc, frames, pass, *name)?;
+                Ok(false)
+            }
             Stage::Seeking => {
                 self.dead = find_dead(alloc, frames, pass)?;
                 Ok(false)

@@ -41,6 +41,8 @@ returns-clause-scans g c =
     let keeps = c.begin-2.ensures.reads.keeps in
     scans_begun g.D.Disk c.begin-2.new.frames c.begin-2.new.pass c.args.query.now c.in_ok-scan.scan e.scanning e.query
     e.walk (keeps.xid ∙ part.xid, keeps.work ∙ part.work)
+    (let room = ap (λ (x : Pass). x.room) c.requires.fresh.whole in
+    omega (arith, keeps.room, c.split-other.ensures.room.1, room))
 
 pub returns-clause-keeps : goal.returns-clause-keeps
 returns-clause-keeps g c =

@@ -14,6 +14,7 @@ returns-clause-scans g c =
       query = c.in_ok-more.ensures.query;
       walk = c.in_ok-more.ensures.walk;
       idle = (e.reads.keeps.xid ∙ was.0, e.reads.keeps.work ∙ was.1);
+      room = e.reads.keeps.room ∙ c.requires.scans.room;
     }
 
 pub returns-clause-keeps : goal.returns-clause-keeps
