@@ -6,6 +6,7 @@ ghost use Rattle.ts_base.specs.Vectors.{Vector};
 ghost use Rattle.ts_base.specs.declared.Tri.{Tri};
 ghost use Rattle.ts_base.specs.Keys.{key_order};
 ghost use Rattle.gin_opclass.specs.Class.{Asked, meaning, JudgeIsSound};
+ghost use Rattle.gin_opclass.specs.NoQuery.{no_query};
 
 use std::cmp::Ordering;
 use std::marker::PhantomData;
@@ -110,4 +111,43 @@ impl CompareKeys for Bytewise {
     fn compare(&self, a: &[u8], b: &[u8]) -> Ordering {
         a.cmp(b)
     }
+}
+
+/// What queries mean that ask for nothing and that nothing satisfies, and the judge who says so.
+#[derive(Drop)]
+pub struct NoQuery;
+
+impl Meaning<()> for NoQuery {
+    ghost use Rattle.gin_opclass.specs.NoQuery.{no_query};
+
+    ghost asked = { no_query.asked };
+
+    ghost all = { no_query.all };
+
+    ghost satisfies = { no_query.satisfies };
+
+    ghost judged = { no_query.judged };
+}
+
+impl Judge<(), NoQuery> for NoQuery {
+    ghost use Rattle.gin_opclass.specs.NoQuery.{no_is_sound};
+
+    ghost serves = { λ _ _. Unit {0} };
+
+    /// No.
+    fn judge(&self, _query: &(), _work: &mut NoQuery, _values: &[Tri]) -> Tri {
+        Tri::False
+    }
+
+    ghost sound = { no_is_sound };
+}
+
+/// Keys by their bytes, and no query: for what looks at the pages of an index and asks nothing.
+pub type KeyClass = OpClass<(), NoQuery, Bytewise, NoQuery>;
+
+/// The one class of this type.
+pub fn key_class() -> KeyClass
+    ensures { JudgeIsSound no_query }
+{
+    OpClass::new(Bytewise, NoQuery)
 }

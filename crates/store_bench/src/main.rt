@@ -8,7 +8,6 @@
 //! takes. With `pages`, `documents` or `runners` it does that part alone.
 #![tactic(auto)]
 
-mod class;
 mod logs;
 mod looks;
 mod pages;

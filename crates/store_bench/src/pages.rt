@@ -6,10 +6,10 @@ ghost use Rattle.page_types.specs.Pages.{IsPage};
 ghost use Rattle.page_types.specs.Views.{entries_in};
 ghost use Rattle.entry_tree.specs.Adding.{IsEntryLeaf, list_entry};
 
-use crate::class::{KeyClass, key_class};
 use anyhow::Result;
 use bench_base::{Bench, Figure, numbered};
 use entry_tree::{Added, Found, add, find};
+use gin_opclass::{KeyClass, key_class};
 use page_code::{PageError, decode_page, encode_page};
 use page_types::{Body, PAGE_BYTES, Page, PostingsRef};
 use std::alloc::{AllocError, Global};

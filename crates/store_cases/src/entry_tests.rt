@@ -14,47 +14,10 @@ use crate::item_tests::items_in;
 use crate::rows::{bytes_of, number, word};
 use crate::tree_tests::{have_bytes, is_given, members};
 use entry_tree::{Added, add, adopt, find, first_child, grow, has_room, split, upper};
-use gin_opclass::{Bytewise, Judge, Meaning, OpClass};
+use gin_opclass::key_class;
 use page_types::{Body, Entries, MOST_KEY_TEXT, Page, PostingsRef};
 use posting_code::Keep;
 use std::alloc::{AllocError, Global};
-use ts_base::Tri;
-
-/// A query that asks for nothing, and its judge: of their class the order of keys alone is used.
-#[derive(Clone, Copy, Debug)]
-struct NoQuery;
-
-impl Meaning<NoQuery> for NoQuery {
-    ghost use Rattle.std.specs.Prelude.{true, []};
-    ghost use Rattle.ts_base.specs.declared.Tri.TheVariants.{Maybe};
-
-    ghost asked = { λ q. [] };
-
-    ghost all = { λ q. true };
-
-    ghost satisfies = { λ q v. ⊥ };
-
-    ghost judged = { λ q values. Maybe };
-}
-
-impl Judge<NoQuery, NoQuery> for NoQuery {
-    ghost use Rattle.std.specs.Prelude.{⊤};
-    ghost use Rattle.store_cases.specs.NoQuery.{never_sure};
-
-    ghost serves = { λ work query. ⊤ };
-
-    /// It is never sure.
-    fn judge(&self, _: &NoQuery, _: &mut NoQuery, _: &[Tri]) -> Tri {
-        Tri::Maybe
-    }
-
-    ghost sound = { never_sure };
-}
-
-/// Keys by their bytes.
-fn by_bytes() -> OpClass<NoQuery, NoQuery, Bytewise, NoQuery> {
-    OpClass::new(Bytewise, NoQuery)
-}
 
 /// Whether a page is one of the entry tree.
 pub(crate) fn is_entry_page(page: &Page) -> bool
@@ -69,7 +32,7 @@ fn is_found(alloc: Global, page: &Page, words: &str, tells: &str) -> Result<bool
     requires entries { IsEntryBody page.now.body }
 {
     let key = bytes_of(alloc, words)?;
-    let text = format!(in alloc; "{:?}", find(page, &by_bytes(), &key))?;
+    let text = format!(in alloc; "{:?}", find(page, &key_class(), &key))?;
     Ok(text.as_str() == tells)
 }
 
@@ -147,7 +110,7 @@ fn takes(
     if !is_key(key) || !is_leaf_for(page, key) {
         return Ok(false);
     }
-    match add(alloc, page, &by_bytes(), key, items)? {
+    match add(alloc, page, &key_class(), key, items)? {
         Added::Done(filled) => has_bytes(alloc, &filled, tells),
         Added::TooLong => Ok(tells == "too long"),
         Added::Full => Ok(tells == "full"),
