@@ -6,7 +6,7 @@ ghost use Rattle.page_types.specs.Pages.{IsPage};
 ghost use Rattle.pending_list.specs.Packing.{AreKeys};
 ghost use Rattle.pending_list.specs.Adding.{IsPendingPage, with_row, HasNoRoom};
 
-use crate::packing::{fitting, pieces_of};
+use crate::packing::{fitting, push_row};
 use page_types::{Body, Page, body_length};
 use std::alloc::{AllocError, Global};
 
@@ -31,11 +31,11 @@ pub fn add_row(
     if fitting(body_length(page), keys) < keys.len() {
         return Ok(None);
     }
-    let mut rows = match &page.body {
-        Body::Pending(rows) => rows.clone()?,
-        _ => return Ok(None),
+    let Body::Pending(old) = &page.body else {
+        unreachable!()
     };
-    rows.push(item, &pieces_of(alloc, keys)?)?;
+    let mut rows = old.clone()?;
+    push_row(alloc, item, keys, &mut rows)?;
     Ok(Some(Page {
         right: page.right,
         stamp: page.stamp,

@@ -1,8 +1,8 @@
 // Rows of a document's keys, on pages of their own.
-ghost use Rattle.std.specs.Prelude.{◌≡◌, ◌≢◌, ◌+◌, ◌≤◌, ◌<◌, length, map, take, All, IfOk};
+ghost use Rattle.std.specs.Prelude.{◌≡◌, ◌≢◌, ◌+◌, ◌≤◌, ◌<◌, [], ◌∷◌, ◌++◌, length, map, take, All, IfOk};
 ghost use Rattle.page_types.specs.Numbers.{most_body, item_limit};
 ghost use Rattle.page_types.specs.Pages.{IsPage};
-ghost use Rattle.pending_list.specs.Packing.{AreKeys, row_length, page_of_row, ArePacked};
+ghost use Rattle.pending_list.specs.Packing.{AreKeys, row_of, row_length, page_of_row, ArePacked};
 
 use page_types::{Body, MOST_BODY_BYTES, Page, Pieces, Rows};
 use std::alloc::{AllocError, Global};
@@ -33,7 +33,7 @@ pub(crate) fn fitting(used: usize, keys: &[Vec<u8>]) -> usize
 }
 
 /// The keys, one after the other in one buffer.
-pub(crate) fn pieces_of(alloc: Global, keys: &[Vec<u8>]) -> Result<Pieces, AllocError>
+fn pieces_of(alloc: Global, keys: &[Vec<u8>]) -> Result<Pieces, AllocError>
     ensures { IfOk result (λ pieces. pieces ≡ map (λ key. key.items) keys.now) }
 {
     let mut pieces = Pieces::new(alloc);
@@ -43,12 +43,26 @@ pub(crate) fn pieces_of(alloc: Global, keys: &[Vec<u8>]) -> Result<Pieces, Alloc
     Ok(pieces)
 }
 
+/// Adds a row of these keys to others.
+pub(crate) fn push_row(
+    alloc: Global,
+    item: u32,
+    keys: &[Vec<u8>],
+    rows: &mut Rows,
+) -> Result<(), AllocError>
+    ensures { IfOk result (λ done. rows.new
+        ≡ rows.old ++ row_of item (map (λ key. key.items) keys.now) ∷ []) }
+{
+    let pieces = pieces_of(alloc, keys)?;
+    rows.push(item, &pieces)
+}
+
 /// A page with one row of these keys, which leads to no other page.
 fn page_of_row(alloc: Global, item: u32, keys: &[Vec<u8>]) -> Result<Page, AllocError>
     ensures { IfOk result (λ page. page ≡ page_of_row item (map (λ key. key.items) keys.now)) }
 {
     let mut rows = Rows::new(alloc);
-    rows.push(item, &pieces_of(alloc, keys)?)?;
+    push_row(alloc, item, keys, &mut rows)?;
     Ok(Page {
         right: 0,
         stamp: 0,
