@@ -1,7 +1,7 @@
 -- A leaf with items added under a key: how many bytes it has, and that it has an encoding.
 use Rattle.std.proofs.Common.{◌≡◌, ℕ, suc, ◌+◌, ◌*◌, ◌<◌, ◌≤◌, Bool, true, false, List, [], ◌∷◌, ◌++◌, length, take}
 use Rattle.std.proofs.Common.{drop, refl, sym, ap, subst, ◌∙◌, inl, inr, arith}
-use Rattle.std.specs.Prelude.{Some}
+use Rattle.std.specs.Prelude.{Some, Result, Ok, Err, IfOk}
 use Rattle.std.specs.List.{slice_get, flat_map}
 use Rattle.std.proofs.lemmas.List.{length-append, length-map, take-append-drop}
 use Rattle.std.proofs.lemmas.List.Concat.{flat_map-append}
@@ -30,6 +30,18 @@ use Rattle.entry_tree.specs.declared.adding.Added.TheVariants as added
 use Rattle.entry_tree.proofs.FoundPlaces.{around, all_there}
 use Rattle.entry_tree.proofs.Reached.{before_less, from_greater}
 use Rattle.entry_tree.proofs.EntryLists.{in_there, after_greater, with_postings_at, around_are}
+
+-- another fact of what is answered
+pub ok_more : {A E : Type 0} (P Q : A → Type 0) (r : Result A E) → ((a : A) → P a → Q a) → IfOk r P → IfOk r Q
+ok_more P Q (Ok a) more h = more a h
+ok_more P Q (Err e) more h = tt
+
+-- the entries of a leaf
+pub leaf_entries : (p : Page) → IsPage p → IsEntryLeaf p.body → AreEntries (entries_in p.body)
+leaf_entries p is on = of_leaf p.body is.body on
+  where
+    of_leaf : (b : Body) → IsBody p.right p.stamp b → IsEntryLeaf b → AreEntries (entries_in b)
+    of_leaf _ on (IsEntryLeaf.leaf high entries) = on.1
 
 -- ---- how many bytes entries have
 

@@ -1,5 +1,9 @@
 -- A search among marks that rise, step by step.
-use Rattle.std.proofs.Common.{◌≡◌, ◌⊎◌, ℕ, ◌+◌, ◌<◌, ◌≤◌, List, [], length, get_or, sym, subst, inl, inr, arith}
+use Rattle.std.proofs.Common.{◌≡◌, ◌≢◌, ◌⊎◌, ◌↔◌, ℕ, ◌+◌, ◌<◌, ◌≤◌, Bool, List, [], length, get_or, refl, sym, ap}
+use Rattle.std.proofs.Common.{subst, ◌∙◌, inl, inr, arith, nat_cmp, Less, Equal, Greater, Ordering}
+use Rattle.std.specs.Prelude.{IsTrue}
+use Rattle.std.specs.Ordering.{is_lt}
+use Rattle.std.specs.Cmp.Lexicographic.{slice_cmp}
 use Rattle.page_types.specs.Keys.{BoundLess, Rising}
 use Rattle.entry_tree.specs.Finding.{IsBelow}
 use Rattle.entry_tree.specs.Inner.Searching.{IsBetween}
@@ -39,3 +43,17 @@ between_down key all low high m rises w le lt not_so =
       | inr same ↦ not_so (subst (λ (i : ℕ). IsBelow (get_or all i []) key) (sym same) b)
     ] in
     record { ordered = le; within = omega (arith, lt, w.within); below = w.below; above = above }
+
+-- ---- what a comparison says
+
+less_of : (o : Ordering) → IsTrue (is_lt o) → o ≡ Less
+less_of Less e = refl
+less_of Equal e = absurd (let z : ⊥ = cc in z)
+less_of Greater e = absurd (let z : ⊥ = cc in z)
+
+pub below_told : (bound key : List ℕ) (o : Ordering) (b : Bool) → bound ≢ [] → o ≡ slice_cmp nat_cmp bound key → b ≡ is_lt o
+    → IsTrue b ↔ IsBelow bound key
+below_told bound key o b some is told = (
+  λ t. (some, sym is ∙ less_of o (sym told ∙ t)),
+  λ below. told ∙ ap is_lt (is ∙ below.1),
+)

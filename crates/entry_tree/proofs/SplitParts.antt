@@ -280,3 +280,7 @@ pub between_more : {A : Type 0} (xs part part' : List A) (from k : ℕ) (x : A) 
 between_more xs part part' from k x so_far at e =
     ap (λ p. take from xs ++ p) e ∙ sym (append_assoc (take from xs) part (x ∷ [])) ∙ ap (λ l. l ++ x ∷ []) so_far
     ∙ sym (take_get xs k x at)
+
+-- a part from the beginning on
+pub made_front : {A : Type 0} (xs part : List A) (k : ℕ) → take 0 xs ++ part ≡ take (k + 1) xs → part ≡ take (suc k) xs
+made_front xs part k made = made ∙ ap (λ (m : ℕ). take m xs) (add-one k)

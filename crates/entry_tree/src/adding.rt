@@ -5,13 +5,12 @@ ghost use Rattle.page_types.specs.Numbers.{most_body, most_inline};
 ghost use Rattle.page_types.specs.Items.{AreItems, IsItemList};
 ghost use Rattle.page_types.specs.Keys.{IsKey};
 ghost use Rattle.page_types.specs.Encoding.{body_bytes};
-ghost use Rattle.page_types.specs.Pages.{IsPage, AreEntries};
+ghost use Rattle.page_types.specs.Pages.{IsPage};
 ghost use Rattle.page_types.specs.Views.{entries_in};
 ghost use Rattle.page_types.specs.declared.page.Page.{Page};
 ghost use Rattle.page_types.specs.declared.page.Body.TheVariants as body;
-ghost use Rattle.core_state.specs.Log.{In};
 ghost use Rattle.posting_code.specs.Uniting.{IsUnited};
-ghost use Rattle.entry_tree.specs.Adding.{IsEntryLeaf, HasNoTree, list_entry, tree_entry, IsAdded};
+ghost use Rattle.entry_tree.specs.Adding.{IsEntryLeaf, HasNoTree, list_entry, IsAdded};
 ghost use Rattle.entry_tree.specs.Inner.Spots.{IsSpot, entries_with, leaf_at};
 
 use crate::searching::{Marks, below};
@@ -27,7 +26,7 @@ use std::alloc::{AllocError, Global};
 const ENTRY_FRONT: usize = 5;
 
 /// What adding items under a key of a leaf gives.
-#[derive(Debug, Drop)]
+#[derive(Drop)]
 pub enum Added {
     /// The leaf with the items under the key.
     Done(Page),
@@ -69,14 +68,18 @@ fn list_of<'a>(entries: &'a Entries, k: usize, key: &[u8]) -> Option<&'a [u8]>
 
 /// Where a key that has no posting tree is on a leaf, or belongs.
 fn spot_of<'a, Q, W: Meaning<Q>, C: CompareKeys, J: Judge<Q, W>>(
-    entries: &'a Entries,
+    page: &'a Page,
     class: &OpClass<Q, W, C, J>,
     key: &[u8],
 ) -> Spot<'a>
-    requires entries { AreEntries entries.now }
-    requires no_tree { (root : ℕ) → In (tree_entry key.now root) entries.now → ⊥ }
-    ensures { IsSpot entries.now key.now result.place result.there result.old.now }
+    requires page { IsPage page.now }
+    requires leaf { IsEntryLeaf page.now.body }
+    requires no_tree { HasNoTree page.now.body key.now }
+    ensures { IsSpot (entries_in page.now.body) key.now result.place result.there result.old.now }
 {
+    let Body::EntryLeaf { entries, .. } = &page.body else {
+        unreachable!()
+    };
     let place = below(Marks::Keys(entries), class, key);
     match list_of(entries, place, key) {
         Some(old) => Spot {
@@ -120,25 +123,23 @@ fn size_with(page: &Page, spot: Spot<'_>, key: &[u8], list: &[u8]) -> usize
     }
 }
 
-/// The entries with this list of the key.
-fn with_list(
-    entries: &Entries,
+/// Puts this list of the key at its place among the entries.
+fn put_list(
+    entries: &mut Entries,
     spot: Spot<'_>,
     key: &[u8],
     list: &[u8],
-) -> Result<Entries, AllocError>
-    requires { IsSpot entries.now key.now spot.place spot.there spot.old.now }
-    ensures { IfOk result (λ more. more
-        ≡ entries_with entries.now key.now spot.entry.place spot.entry.there list.now) }
+) -> Result<(), AllocError>
+    requires { IsSpot entries.old key.now spot.place spot.there spot.old.now }
+    ensures { IfOk result (λ done. entries.new
+        ≡ entries_with entries.old key.now spot.entry.place spot.entry.there list.now) }
 {
-    let mut more = entries.clone()?;
     let postings = PostingsRef::Inline(list);
     if spot.there {
-        more.set_postings(spot.place, postings)?;
-        return Ok(more);
+        entries.set_postings(spot.place, postings)
+    } else {
+        entries.insert(spot.place, EntryRef { key, postings })
     }
-    more.insert(spot.place, EntryRef { key, postings })?;
-    Ok(more)
 }
 
 /// The page as a leaf with these entries.
@@ -154,6 +155,29 @@ pub(crate) fn leaf_of(page: &Page, high: &Bytes, entries: Entries) -> Result<Pag
             entries,
         },
     })
+}
+
+/// The leaf with this list of the key, where neither is too long.
+fn add_list(page: &Page, spot: Spot<'_>, key: &[u8], list: &[u8]) -> Result<Added, AllocError>
+    requires leaf { IsEntryLeaf page.now.body }
+    requires fits { length (body_bytes page.now.body) ≤ most_body }
+    requires spot { IsSpot (entries_in page.now.body) key.now spot.place spot.there spot.old.now }
+    requires key { IsKey key.now }
+    ensures { IfOk result (λ answer. (items : List ℕ)
+        → IsUnited spot.entry.old.now items list.now → IsAdded page.now key.now items answer) }
+{
+    let Body::EntryLeaf { high, entries } = &page.body else {
+        unreachable!()
+    };
+    if list.len() > MOST_INLINE_BYTES {
+        return Ok(Added::TooLong);
+    }
+    if size_with(page, spot, key, list) > MOST_BODY_BYTES {
+        return Ok(Added::Full);
+    }
+    let mut more = entries.clone()?;
+    put_list(&mut more, spot, key, list)?;
+    Ok(Added::Done(leaf_of(page, high, more)?))
 }
 
 /// A leaf with items added under a key, whose entry is made where there is none.
@@ -172,17 +196,7 @@ pub fn add<Q, W: Meaning<Q>, C: CompareKeys, J: Judge<Q, W>>(
     ensures added { IfOk result (λ answer. IsAdded page.now key.now items.now answer) }
     ensures is_page { IfOk result (λ answer. (p : Page) → answer ≡ Added.Done p → IsPage p) }
 {
-    let Body::EntryLeaf { high, entries } = &page.body else {
-        return Ok(Added::Full);
-    };
-    let spot = spot_of(entries, class, key);
+    let spot = spot_of(page, class, key);
     let list = united(alloc, spot.old, items)?;
-    if list.len() > MOST_INLINE_BYTES {
-        return Ok(Added::TooLong);
-    }
-    if size_with(page, spot, key, &list) > MOST_BODY_BYTES {
-        return Ok(Added::Full);
-    }
-    let more = with_list(entries, spot, key, &list)?;
-    Ok(Added::Done(leaf_of(page, high, more)?))
+    add_list(page, spot, key, &list)
 }

@@ -29,20 +29,21 @@ fn place_of(children: &EntryChildren, page: u32) -> Option<usize>
     None
 }
 
-/// The children with one more: the one with this number gets another bound, and the new page comes
-/// after it with the old one.
-fn with_one_more(
+/// Makes of a copy of the children those with one more: the one with this number gets another bound,
+/// and the new page comes after it with the old one.
+fn put_one_more(
     children: &EntryChildren,
     k: usize,
     new: u32,
     mid: &[u8],
-) -> Result<EntryChildren, AllocError>
-    requires { k < length children.now }
-    ensures { IfOk result (λ more. IsOneMore children.now k new mid.now more) }
+    more: &mut EntryChildren,
+) -> Result<(), AllocError>
+    requires there { k < length children.now }
+    requires copy { more.old ≡ children.now }
+    ensures { IfOk result (λ done. IsOneMore children.now k new mid.now more.new) }
 {
-    let mut more = children.clone()?;
     let Some(old) = children.get(k) else {
-        return Ok(more);
+        unreachable!()
     };
     let behind = EntryChildRef {
         page: new,
@@ -53,8 +54,7 @@ fn with_one_more(
         bound: mid,
     };
     more.set(k, behind)?;
-    more.insert(k, here)?;
-    Ok(more)
+    more.insert(k, here)
 }
 
 /// A parent whose child `page` was split: the child gets the bound `mid`, and the new page comes
@@ -76,9 +76,11 @@ pub fn adopt(parent: &Page, page: u32, new: u32, mid: &[u8]) -> Result<Option<Pa
     let Some(place) = place_of(children, page) else {
         return Ok(None);
     };
+    let mut more = children.clone()?;
+    put_one_more(children, place, new, mid, &mut more)?;
     Ok(Some(Page {
         right: parent.right,
         stamp: parent.stamp,
-        body: Body::EntryInner(with_one_more(children, place, new, mid)?),
+        body: Body::EntryInner(more),
     }))
 }

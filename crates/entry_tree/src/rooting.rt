@@ -46,10 +46,10 @@ pub fn root_at(page: &Page, place: usize, root: u32) -> Result<Option<Page>, All
         IsPage page.now → root < page_limit → IsPage p)) }
 {
     let Body::EntryLeaf { high, entries } = &page.body else {
-        return Ok(None);
+        unreachable!()
     };
     let Some(list) = list_at(entries, place) else {
-        return Ok(None);
+        unreachable!()
     };
     if body_length(page) - list.len() + ROOT_BYTES > MOST_BODY_BYTES {
         return Ok(None);

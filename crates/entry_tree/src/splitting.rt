@@ -253,53 +253,62 @@ fn children_between(
     Ok(part)
 }
 
-/// The leaf with the entries up to the one with this number, whose key is the high key.
-fn left_leaf(alloc: Global, entries: &Entries, k: usize) -> Result<Body, AllocError>
-    requires there { k < length entries.now }
+/// The two parts of a leaf: the first one ends with the entry with this number, whose key is its high key.
+fn leaf_parts(
+    alloc: Global,
+    high: &Bytes,
+    entries: &Entries,
+    k: usize,
+) -> Result<(Body, Body), AllocError>
+    requires place { IsCutPlace (body.EntryLeaf high.now entries.now) k }
     requires few { length entries.now < 2 ^ 16 }
-    ensures { IfOk result (λ b. b ≡ body.EntryLeaf (last_key (take (suc k) entries.now))
-        (take (suc k) entries.now)) }
+    ensures left { IfOk result (λ parts. parts.0 ≡ left_of (body.EntryLeaf high.now entries.now) k) }
+    ensures right { IfOk result (λ parts. parts.1
+        ≡ right_of (body.EntryLeaf high.now entries.now) k) }
 {
-    let high = Bytes::from_slice(alloc, key_of(entries, k))?;
-    let entries = entries_between(alloc, entries, 0, k + 1)?;
-    Ok(Body::EntryLeaf { high, entries })
+    let last = Bytes::from_slice(alloc, key_of(entries, k))?;
+    let high = high.clone()?;
+    let front = entries_between(alloc, entries, 0, k + 1)?;
+    let back = entries_between(alloc, entries, k + 1, entries.len())?;
+    let left = Body::EntryLeaf {
+        high: last,
+        entries: front,
+    };
+    let right = Body::EntryLeaf {
+        high,
+        entries: back,
+    };
+    Ok((left, right))
 }
 
-/// The part up to the member with this number.
-fn left_part(alloc: Global, page: &Page, k: usize) -> Result<Body, AllocError>
+/// The two parts of an inner page: the first one ends with the child with this number.
+fn inner_parts(
+    alloc: Global,
+    children: &EntryChildren,
+    k: usize,
+) -> Result<(Body, Body), AllocError>
+    requires place { IsCutPlace (body.EntryInner children.now) k }
+    requires few { length children.now < 2 ^ 16 }
+    ensures left { IfOk result (λ parts. parts.0 ≡ left_of (body.EntryInner children.now) k) }
+    ensures right { IfOk result (λ parts. parts.1 ≡ right_of (body.EntryInner children.now) k) }
+{
+    let left = children_between(alloc, children, 0, k + 1)?;
+    let right = children_between(alloc, children, k + 1, children.len())?;
+    Ok((Body::EntryInner(left), Body::EntryInner(right)))
+}
+
+/// The two parts of what is on a page, of which the first one ends with the member with this number.
+fn parts_of(alloc: Global, page: &Page, k: usize) -> Result<(Body, Body), AllocError>
     requires page { IsPage page.now }
     requires entries { IsEntryBody page.now.body }
     requires place { IsCutPlace page.now.body k }
-    ensures { IfOk result (λ b. b ≡ left_of page.now.body k) }
+    ensures left { IfOk result (λ parts. parts.0 ≡ left_of page.now.body k) }
+    ensures right { IfOk result (λ parts. parts.1 ≡ right_of page.now.body k) }
 {
     match &page.body {
-        Body::EntryLeaf { entries, .. } => left_leaf(alloc, entries, k),
-        Body::EntryInner(children) => {
-            Ok(Body::EntryInner(children_between(alloc, children, 0, k + 1)?))
-        }
-        other => other.clone(),
-    }
-}
-
-/// The part after the member with this number.
-fn right_part(alloc: Global, page: &Page, k: usize) -> Result<Body, AllocError>
-    requires page { IsPage page.now }
-    requires entries { IsEntryBody page.now.body }
-    requires place { IsCutPlace page.now.body k }
-    ensures { IfOk result (λ b. b ≡ right_of page.now.body k) }
-{
-    match &page.body {
-        Body::EntryLeaf { high, entries } => Ok(Body::EntryLeaf {
-            high: high.clone()?,
-            entries: entries_between(alloc, entries, k + 1, entries.len())?,
-        }),
-        Body::EntryInner(children) => Ok(Body::EntryInner(children_between(
-            alloc,
-            children,
-            k + 1,
-            children.len(),
-        )?)),
-        other => other.clone(),
+        Body::EntryLeaf { high, entries } => leaf_parts(alloc, high, entries, k),
+        Body::EntryInner(children) => inner_parts(alloc, children, k),
+        _ => unreachable!(),
     }
 }
 
@@ -313,16 +322,16 @@ pub fn split(alloc: Global, page: &Page, new: u32, keep: Keep) -> Result<(Page, 
     ensures are_pages { IfOk result (λ pages. new ≢ 0 → new < page_limit
         → IsPage pages.0 × IsPage pages.1) }
 {
-    let k = place_of_cut(page, keep);
+    let (first, second) = parts_of(alloc, page, place_of_cut(page, keep))?;
     let left = Page {
         right: new,
         stamp: page.stamp,
-        body: left_part(alloc, page, k)?,
+        body: first,
     };
     let right = Page {
         right: page.right,
         stamp: page.stamp,
-        body: right_part(alloc, page, k)?,
+        body: second,
     };
     Ok((left, right))
 }

@@ -16,19 +16,22 @@ returns-in_default-place_of-clause-none c = (
   λ h. refl,
 )
 
-pub with_one_more-requires : goal.with_one_more-requires
-with_one_more-requires c =
+pub put_one_more-requires-clause-there : goal.put_one_more-requires-clause-there
+put_one_more-requires-clause-there c =
     let there = c.in-Some.ensures.some in
     slice_get_within c.in-EntryInner.children c.in-Some.place there.0 there.1
+
+pub put_one_more-requires-clause-copy : goal.put_one_more-requires-clause-copy
+put_one_more-requires-clause-copy c = c.in_ok-more.ensures.cases
 
 pub returns-clause-adopted : goal.returns-clause-adopted
 returns-clause-adopted c =
     let there = c.in-Some.ensures.some in
-    let more = c.in_ok-with_one_more.field-0 in
+    let more = c.put_one_more.new.more in
     subst (λ (content : Body). EntryParent c.args.page c.args.new c.args.mid.now content (body.EntryInner more))
     (sym c.in-EntryInner.is)
     (is_parent c.in-EntryInner.children more c.in-Some.place c.args.page c.args.new c.args.mid.now there.0 there.1
-    there.2 c.in_ok-with_one_more.ensures)
+    there.2 c.in_ok-put_one_more.ensures)
 
 pub returns-clause-none : goal.returns-clause-none
 returns-clause-none c =
@@ -41,5 +44,5 @@ returns-clause-none c =
 pub returns-clause-is_page : goal.returns-clause-is_page
 returns-clause-is_page c = λ w div is room lt.
     adopted_page c.args.parent.now
-    (record c.args.parent.now { body = body.EntryInner c.in_ok-with_one_more.field-0 }) c.args.page c.args.new
+    (record c.args.parent.now { body = body.EntryInner c.put_one_more.new.more }) c.args.page c.args.new
     c.args.mid.now w refl div is room lt

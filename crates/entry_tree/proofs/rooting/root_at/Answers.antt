@@ -1,5 +1,4 @@
-use Rattle.std.proofs.Common.{◌≡◌, ◌<◌, List, length, refl, sym, ap, subst, ◌∙◌, arith, rules}
-use Rattle.std.proofs.lemmas.Grind.{common_steps}
+use Rattle.std.proofs.Common.{◌≡◌, ◌<◌, List, length, refl, sym, ap, subst, ◌∙◌, arith}
 use Rattle.std.proofs.lemmas.Option.{slice_get_within}
 use Rattle.page_types.specs.Pages.{IsPage}
 use Rattle.page_types.specs.Views.{with_postings}
@@ -30,7 +29,7 @@ returns-then-body_length-list-gt-MOST_BODY_BYTES-clause-none c =
 pub set_postings-requires : goal.set_postings-requires
 set_postings-requires c =
     let at = c.in-Some.ensures.some in
-    let copied : c.in_ok-more.more ≡ c.in-EntryLeaf.entries = first_of (search rules, grind (arith, common_steps)) in
+    let copied : c.in_ok-more.more ≡ c.in-EntryLeaf.entries = c.in_ok-more.ensures.cases in
     subst (λ (es : List Entry). c.args.place < length es) (sym copied)
     (slice_get_within c.in-EntryLeaf.entries c.args.place (list_entry at.0 c.in-Some.list.now) at.1)
 
@@ -51,7 +50,7 @@ returns-clause-is_page c =
     (there_in page.body c.in-EntryLeaf.high c.in-EntryLeaf.entries c.args.place
     (list_entry at.0 c.in-Some.list.now) c.in-EntryLeaf.is at.1) in
     let short = c.if-body_length-list-gt-MOST_BODY_BYTES.false in
-    let copied : c.in_ok-more.more ≡ c.in-EntryLeaf.entries = first_of (search rules, grind (arith, common_steps)) in
+    let copied : c.in_ok-more.more ≡ c.in-EntryLeaf.entries = c.in_ok-more.ensures.cases in
     let made = made_rooted page c.in_ok-leaf_of.field-0 c.in-EntryLeaf.high c.in-EntryLeaf.entries
     c.set_postings.new.self c.args.place c.args.root c.in-EntryLeaf.is c.in_ok-leaf_of.ensures
     (c.in_ok-set_postings.ensures.ok
