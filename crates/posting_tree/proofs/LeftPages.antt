@@ -3,7 +3,7 @@ use Rattle.std.proofs.Common.{◌≡◌, ◌↔◌, ℕ, zero, suc, ◌+◌, ◌
 use Rattle.std.proofs.Common.{subst, inl, inr, arith}
 use Rattle.std.specs.Prelude.{Option, Some, None, Bool, true, IsTrue}
 use Rattle.std.specs.List.{AllByRecursion, Contains, slice_get, flat_map}
-use Rattle.std.proofs.lemmas.List.{length-append}
+use Rattle.std.proofs.lemmas.List.{length-append, take_all}
 use Rattle.page_types.specs.Items.{items_of}
 use Rattle.page_types.specs.Keys.{KeyLess, Rising}
 use Rattle.page_types.specs.Views.{list_in}
@@ -53,6 +53,15 @@ pub record IsLeftUpTo (dead : List ℕ) (entries : List Entry) (k : ℕ) (left :
 
 pub left_starts : (dead : List ℕ) (entries : List Entry) → IsLeftUpTo dead entries 0 [] true
 left_starts dead entries = record { left_are = tt; same_is = (λ e. tt, λ h. refl) }
+
+-- all entries
+pub left_ends : (dead : List ℕ) (entries : List Entry) (k : ℕ) (left : List Entry) (same : Bool) → length entries ≤ k
+    → IsLeftUpTo dead entries k left same → AreEntriesLeft dead entries left × (IsTrue same ↔ HaveNone dead entries)
+left_ends dead entries k left same le h =
+    let all = take_all k entries le in (
+      subst (λ (es : List Entry). AreEntriesLeft dead es left) all h.left_are,
+      subst (λ (es : List Entry). IsTrue same ↔ HaveNone dead es) all h.same_is,
+    )
 
 -- one entry more, with the two tests at once
 pub left_next : (dead : List ℕ) (entries : List Entry) (k : ℕ) (left more : List Entry) (same one both : Bool)

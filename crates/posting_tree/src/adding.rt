@@ -14,7 +14,7 @@ use std::alloc::{AllocError, Global};
 pub const MOST_LIST_BYTES: usize = MOST_BODY_BYTES - 4;
 
 /// What adding items to a leaf gives.
-#[derive(Debug, Drop)]
+#[derive(Drop)]
 pub enum Added {
     /// The leaf with the items.
     Done(Page),

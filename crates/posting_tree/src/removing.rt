@@ -63,27 +63,28 @@ fn push_left(
     }
 }
 
-/// The entries without the dead items; none exactly where they have none of them.
-fn entries_left(
+/// Adds all entries without the dead items to an empty list, and answers whether they had none of them.
+fn push_all_left(
     alloc: Global,
     entries: &Entries,
     dead: &ItemSet,
-) -> Result<Option<Entries>, AllocError>
-    requires { AllByRecursion IsEntry entries.now }
-    ensures left { IfOk result (λ o. IfSome o (λ left. AreEntriesLeft dead.now entries.now left)) }
-    ensures none { IfOk result (λ o. (o ≡ None)
+    left: &mut Entries,
+) -> Result<bool, AllocError>
+    requires each { AllByRecursion IsEntry entries.now }
+    requires none { left.old ≡ [] }
+    ensures left { IfOk result (λ same. AreEntriesLeft dead.now entries.now left.new) }
+    ensures same { IfOk result (λ same. IsTrue same
         ↔ AllByRecursion (λ e. HasNone dead.now (list_in e.postings)) entries.now) }
 {
-    let mut left = Entries::with_room(alloc, entries.len(), MOST_BODY_BYTES)?;
     let mut list = Vec::new(alloc);
     let mut same = true;
     for k in 0..entries.len() {
         let Some(entry) = entries.get(k) else {
             unreachable!()
         };
-        same = push_left(entry, dead, &mut list, &mut left)? && same;
+        same = push_left(entry, dead, &mut list, left)? && same;
     }
-    if same { Ok(None) } else { Ok(Some(left)) }
+    Ok(same)
 }
 
 /// The leaf of entries without the dead items; none exactly where it has none of them.
@@ -99,9 +100,10 @@ fn entry_leaf(
     ensures none { IfOk result (λ o. (o ≡ None) ↔ ((i : ℕ)
         → IsListed (body.EntryLeaf high.now entries.now) i → Contains dead.now i → ⊥)) }
 {
-    let Some(left) = entries_left(alloc, entries, dead)? else {
+    let mut left = Entries::with_room(alloc, entries.len(), MOST_BODY_BYTES)?;
+    if push_all_left(alloc, entries, dead, &mut left)? {
         return Ok(None);
-    };
+    }
     Ok(Some(Body::EntryLeaf {
         high: high.clone()?,
         entries: left,

@@ -1,7 +1,6 @@
-use Rattle.std.proofs.Common.{◌≡◌, ◌<◌, List, length, refl, sym, ap, subst, ◌∙◌, arith, rules}
+use Rattle.std.proofs.Common.{◌≡◌, ◌<◌, List, length, refl, sym, ap, subst, ◌∙◌, arith}
 use Rattle.std.specs.Prelude.{Some, slice_set}
 use Rattle.std.specs.List.{slice_get, insert}
-use Rattle.std.proofs.lemmas.Grind.{common_steps}
 use Rattle.std.proofs.lemmas.Option.{none-some, slice_get_within}
 use Rattle.std.proofs.Math.ListN.{length-set}
 use Rattle.page_types.specs.Views.{post_children_in}
@@ -26,7 +25,7 @@ pub set-requires : goal.set-requires
 set-requires c =
     let children = c.in-PostInner.children in
     let child : PostChild = record { page = c.args.page; bound = c.in-Some.bound } in
-    let copied : c.in_ok-more.more ≡ children = first_of (search rules, grind (arith, common_steps)) in
+    let copied : c.in_ok-more.more ≡ children = c.in_ok-more.ensures.cases in
     subst (λ (cs : List PostChild). c.in-Some.place < length cs) (c.as_slice.ensures ∙ sym copied)
     (slice_get_within c.as_slice.result.now c.in-Some.place child c.in-Some.ensures.some)
 
@@ -35,7 +34,7 @@ insert-requires c =
     let children = c.in-PostInner.children in
     let child : PostChild = record { page = c.args.page; bound = c.in-Some.bound } in
     let behind : PostChild = record { page = c.args.new; bound = c.in-Some.bound } in
-    let copied : c.in_ok-more.more ≡ children = first_of (search rules, grind (arith, common_steps)) in
+    let copied : c.in_ok-more.more ≡ children = c.in_ok-more.ensures.cases in
     omega (
       arith,
       ap length c.set.ensures,
@@ -52,7 +51,7 @@ returns-clause-adopted c =
     let child : PostChild = record { page = c.args.page; bound = c.in-Some.bound } in
     let here : PostChild = record { page = c.args.page; bound = c.args.mid } in
     let behind : PostChild = record { page = c.args.new; bound = c.in-Some.bound } in
-    let copied : c.in_ok-more.more ≡ children = first_of (search rules, grind (arith, common_steps)) in
+    let copied : c.in_ok-more.more ≡ children = c.in_ok-more.ensures.cases in
     subst (λ (content : Body). PostParent c.args.page c.args.new c.args.mid content (body.PostInner c.insert.new.self))
     (sym c.in-PostInner.is)
     (is_parent children c.insert.new.self k c.args.page c.args.new c.args.mid c.in-Some.bound

@@ -1,5 +1,4 @@
-use Rattle.std.proofs.Common.{◌≡◌, List, [], ◌∷◌, ◌++◌, sym, ap, subst, ◌∙◌, arith, rules}
-use Rattle.std.proofs.lemmas.Grind.{common_steps}
+use Rattle.std.proofs.Common.{◌≡◌, List, [], ◌∷◌, ◌++◌, sym, ap, subst, ◌∙◌}
 use Rattle.page_types.specs.Numbers.{no_bound}
 use Rattle.page_types.specs.Pages.{IsPage}
 use Rattle.page_types.specs.declared.page.PostChild.{PostChild}
@@ -14,7 +13,7 @@ returns-clause-are_pages c =
     let child : PostChild = record { page = c.args.child; bound = no_bound } in
     let one : c.push.new.self ≡ child ∷ [] =
     c.in_ok-push.ensures.ok ∙ ap (λ (l : List PostChild). l ++ child ∷ []) c.new-children.ensures in
-    let copied : c.in_ok-body.body ≡ page.body = first_of (search rules, grind (arith, common_steps)) in
+    let copied : c.in_ok-body.body ≡ page.body = c.in_ok-body.ensures.cases in
     λ is link lt. (
       subst (λ (l : List PostChild). IsPage (record page { body = body.PostInner l }))
           (sym one) (root_is page c.args.child is link lt),

@@ -1,7 +1,6 @@
-use Rattle.std.proofs.Common.{◌≡◌, length, List, refl, sym, ap, subst, ◌∙◌, arith, rules}
+use Rattle.std.proofs.Common.{◌≡◌, length, List, refl, sym, ap, subst, ◌∙◌, arith}
 use Rattle.std.specs.Prelude.{Some}
 use Rattle.std.specs.List.{slice_get, remove}
-use Rattle.std.proofs.lemmas.Grind.{common_steps}
 use Rattle.std.proofs.lemmas.Option.{none-some, slice_get_within}
 use Rattle.page_types.specs.Views.{post_children_in}
 use Rattle.page_types.specs.declared.page.PostChild.{PostChild}
@@ -44,7 +43,7 @@ pub returns-clause-unlinked : goal.returns-clause-unlinked
 returns-clause-unlinked c =
     let children = c.in-PostInner.children in
     let child : PostChild = record { page = c.args.child; bound = c.in-Some.field-0-1 } in
-    let copied : c.in_ok-fewer.fewer ≡ children = first_of (search rules, grind (arith, common_steps)) in
+    let copied : c.in_ok-fewer.fewer ≡ children = c.in_ok-fewer.ensures.cases in
     subst (λ (content : Body). IsUnlinked c.args.child content (body.PostInner c.remove.new.self))
     (sym c.in-PostInner.is)
     (unlinked c.args.child c.in-Some.place c.in-Some.field-0-1 children c.remove.new.self
@@ -67,7 +66,7 @@ pub returns-clause-is_page : goal.returns-clause-is_page
 returns-clause-is_page c = λ is.
     let children = c.in-PostInner.children in
     let child : PostChild = record { page = c.args.child; bound = c.in-Some.field-0-1 } in
-    let copied : c.in_ok-fewer.fewer ≡ children = first_of (search rules, grind (arith, common_steps)) in
+    let copied : c.in_ok-fewer.fewer ≡ children = c.in_ok-fewer.ensures.cases in
     unlinked_page c.args.parent.now c.args.child c.in-Some.place c.in-Some.field-0-1 children c.remove.new.self is
     c.in-PostInner.is
     (subst (λ (cs : List PostChild). slice_get cs c.in-Some.place ≡ Some child) c.as_slice.ensures
