@@ -1,17 +1,17 @@
 -- Public is what the proofs of other crates may cite.
 pub mod Out
 pub mod Kept
-mod Logging
-mod OutStays
+pub mod Logging
+pub mod OutStays
 mod Turns
 mod Ways
 mod WorkedVacuum
 mod FreedSlots
 mod Covers
-mod FirstLeaves
-mod OneEntry
+pub mod FirstLeaves
+pub mod OneEntry
 mod DeadHeads
-mod HeapPages
+pub mod HeapPages
 mod LostChildren
 mod AmongLists
 mod GoneItems

@@ -56,7 +56,8 @@ returns-in_default-head_then c =
           let at = drops_at c.args.floor k r n before after p c.in-Some.page c.index-before-0.result
           c.index-before-1.result p.heap c.index-after-1.result (head_shown c.in-Some-head_in.head)
           c.in-Some.ensures.some c.index-before-0.is c.index-before-1.is
-          (sym (ap (λ (zs : List Page). get_or zs 0 p.heap) p.after_is)) c.index-after-1.is c.in-Some-head_in.ensures.some in
+          (sym (ap (λ (zs : List Page). get_or zs 0 p.heap) p.after_is)) c.index-after-1.is
+          c.in-Some-head_in.ensures.some in
           absurd (none_holds c.head_then.result c.in_default-head_then.not-Some c.head_then.ensures.none at.then
           at.first),
     )
