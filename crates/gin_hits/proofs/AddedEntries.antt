@@ -20,7 +20,7 @@ use Rattle.gin_hits.specs.Rows.{asked_by, asked_for, lists_of}
 use Rattle.gin_hits.specs.Entries.{listed, entries_with, items_under, AreNotedUnder}
 use Rattle.gin_hits.specs.declared.hits.Hits.{Hits}
 use Rattle.gin_hits.proofs.AddedLists.{added, all_added}
-use Rattle.gin_hits.proofs.FittingEntries.{range_more}
+use Rattle.gin_hits.proofs.FittingEntries.{range_more, range_none}
 
 -- ── entries more ──
 
@@ -86,6 +86,13 @@ noted_entry asked es e bytes old new g any by_key noted = record {
       (λ (a : Asked). items_under (entries_with (fits_asked a) (es ++ e ∷ []))) asked (fitting_more es (e ∷ []));
 }
 
+-- none of the entries of a leaf yet
+pub noted_none : (asked : List Asked) (before es : List Entry) (from : ℕ) (h : Hits) → AreNotedUnder asked before h
+    → AreNotedUnder asked (before ++ slice_range es from from) h
+noted_none asked before es from h noted =
+    subst (λ (ds : List Entry). AreNotedUnder asked ds h)
+    (sym (append-nil before) ∙ ap (λ (ds : List Entry). before ++ ds) (sym (range_none es from))) noted
+
 -- so of the entries of a leaf from one on
 pub noted_next : (asked : List Asked) (before es : List Entry) (e : Entry) (from k : ℕ) (new : Hits) → from ≤ k
     → slice_get es k ≡ Some e → AreNotedUnder asked ((before ++ slice_range es from k) ++ e ∷ []) new
@@ -95,3 +102,11 @@ noted_next asked before es e from k new le at noted =
     (append_assoc before (slice_range es from k) (e ∷ [])
     ∙ ap (λ (ds : List Entry). before ++ ds) (sym (range_more es from k e le at)))
     noted
+
+-- and of all that were sought
+pub noted_all : (asked : List Asked) (before es found : List Entry) (from k end : ℕ) (h : Hits) → k ≡ end
+    → slice_range es from end ≡ found → AreNotedUnder asked (before ++ slice_range es from k) h
+    → AreNotedUnder asked (before ++ found) h
+noted_all asked before es found from k end h last all noted =
+    subst (λ (ds : List Entry). AreNotedUnder asked (before ++ ds) h)
+    (ap (λ (n : ℕ). slice_range es from n) last ∙ all) noted

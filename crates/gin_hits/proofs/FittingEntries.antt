@@ -82,6 +82,10 @@ range_more xs from k x le e =
     ap (λ (n : ℕ). take n (drop from xs)) (let z : k + 1 - from ≡ suc (k - from) = omega (arith, le) in z)
     ∙ part_more xs from (k - from) k x (omega (arith, le)) e
 
+-- nothing is between a place and itself
+pub range_none : {A : Type 0} (xs : List A) (k : ℕ) → slice_range xs k k ≡ []
+range_none xs k = ap (λ (n : ℕ). take n (drop k xs)) (let z : k - k ≡ 0 = omega arith in z)
+
 -- what holds of each in a range
 part_all : {A : Type 0} (P : A → Type 0) (xs : List A) (from n k : ℕ) (x : A)
     → AllByRecursion P (take n (drop from xs)) → from ≤ k → k < from + n → slice_get xs k ≡ Some x → P x

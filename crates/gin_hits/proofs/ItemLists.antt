@@ -1,7 +1,8 @@
 -- Lists of items in order: whether one has an item.
 use Rattle.std.proofs.Common.{◌≡◌, ◌⊎◌, ◌↔◌, ℕ, eqb, zero, suc, ◌<◌, ◌≤◌, Bool, IsTrue, List, [], ◌∷◌, length, get_or}
 use Rattle.std.proofs.Common.{Result, Ok, Err}
-use Rattle.std.proofs.Common.{refl, sym, subst, ◌∙◌, inl, inr, arith, AllPairs}
+use Rattle.std.proofs.Common.{refl, sym, ap, ap₂, subst, ◌∙◌, inl, inr, arith, map, replicate, ◌+◌, ◌++◌, AllPairs}
+use Rattle.std.proofs.lemmas.List.{map_push, replicate-append-replicate}
 use Rattle.std.specs.Prelude.{Vec}
 use Rattle.std.specs.declared.alloc.Global.{Global}
 use Rattle.std.specs.Result.{is_ok}
@@ -86,3 +87,11 @@ module _ (xs ys : List ℕ) (once : IsFiltered (DiffersFromLast eqb) [] xs ys) w
         (λ m. contained i xs (Contains-from_dedup eqb xs i (contains i (dedup eqb xs) m))),
         (λ m. contained i (dedup eqb xs) (Contains-dedup_nat xs i (contains i xs m))),
       )
+
+-- an empty list more
+pub one_empty : (old new : List (Vec ℕ Global)) (v : Vec ℕ Global) (n : ℕ) → new ≡ old ++ v ∷ [] → v.items ≡ []
+    → map items_in old ≡ replicate {A = List ℕ} n [] → map items_in new ≡ replicate {A = List ℕ} (n + 1) []
+one_empty old new v n more none was =
+    ap (map items_in) more ∙ map_push items_in old v
+    ∙ ap₂ (λ (ls : List (List ℕ)) (list : List ℕ). ls ++ list ∷ []) was none
+    ∙ replicate-append-replicate n 1 []

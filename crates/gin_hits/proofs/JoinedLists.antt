@@ -1,6 +1,6 @@
 -- Lists of items that are joined.
 use Rattle.std.proofs.Common.{◌≡◌, ◌⊎◌, ◌↔◌, ℕ, ◌+◌, ◌<◌, ◌≤◌, true, false, List, [], ◌∷◌, ◌++◌, length, map, take}
-use Rattle.std.proofs.Common.{get_or}
+use Rattle.std.proofs.Common.{get_or, Bool}
 use Rattle.std.proofs.Common.{refl, sym, ap, subst, ◌∙◌, inl, inr}
 use Rattle.std.specs.Prelude.{Vec}
 use Rattle.std.specs.declared.alloc.Global.{Global}
@@ -84,26 +84,40 @@ joined_as i new old old' vs vs' e f was =
 
 -- ── the items that may be kept ──
 
+-- what comes after others, in two parts
+in_parts : {Old Mid New One Two : Type 0} → (Mid ↔ (Old ⊎ One)) → (New ↔ (Mid ⊎ Two)) → New ↔ (Old ⊎ (One ⊎ Two))
+in_parts f g = (
+  (λ m. elim (g.0 m) [
+    | inl a ↦ elim (f.0 a) [ inl b ↦ inl b | inr b ↦ inr (inl b) ]
+    | inr b ↦ inr (inr b)
+  ]),
+  (λ m. elim m [
+    | inl a ↦ g.1 (inl (f.1 (inl a)))
+    | inr a ↦ elim a [ inl b ↦ g.1 (inl (f.1 (inr b))) | inr b ↦ g.1 (inr b) ]
+  ]),
+)
+
 -- the whole index was read
-pub all_items : (i : ℕ) (pending main : Hits)
-    → In i (pending.any.items ++ main.any.items) ↔ MayBeKept true pending main i
-all_items i pending main = in_joined i pending.any.items main.any.items
+pub all_items : (i : ℕ) (old new : List ℕ) (pending main : Hits) (all : Bool) → all ≡ true
+    → new ≡ (old ++ pending.any.items) ++ main.any.items
+    → In i new ↔ (In i old ⊎ MayBeKept all pending main i)
+all_items i old new pending main all whole both =
+    let p = pending.any.items in
+    let m = main.any.items in
+    subst (λ (b : Bool). In i new ↔ (In i old ⊎ MayBeKept b pending main i)) (sym whole)
+    (subst (λ (is : List ℕ). In i is ↔ (In i old ⊎ MayBeKept true pending main i)) (sym both)
+    (in_parts (in_joined i old p) (in_joined i (old ++ p) m)))
 
 -- else those of which a key fits
-pub some_items : (i : ℕ) (pending main : Hits) (one two : List ℕ)
-    → (In i one ↔ (In i [] ⊎ InOne i (lists_of pending))) → (In i two ↔ (In i one ⊎ InOne i (lists_of main)))
-    → In i two ↔ MayBeKept false pending main i
-some_items i pending main one two f g = (to, from)
-  where
-    to : In i two → MayBeKept false pending main i
-    to m = elim (g.0 m) [
-      | inl a ↦ elim (f.0 a) [
-        | inl none ↦ absurd none
-        | inr b ↦ inl b
-      ]
-      | inr b ↦ inr b
-    ]
+pub some_items : (i : ℕ) (old one two : List ℕ) (pending main : Hits) (all : Bool) → all ≡ false
+    → (In i one ↔ (In i old ⊎ InOne i (lists_of pending))) → (In i two ↔ (In i one ⊎ InOne i (lists_of main)))
+    → In i two ↔ (In i old ⊎ MayBeKept all pending main i)
+some_items i old one two pending main all part f g =
+    subst (λ (b : Bool). In i two ↔ (In i old ⊎ MayBeKept b pending main i)) (sym part) (in_parts f g)
 
-    from : MayBeKept false pending main i → In i two
-    from (inl b) = g.1 (inl (f.1 (inr b)))
-    from (inr b) = g.1 (inr b)
+-- and nothing was there before
+pub only_these : (i : ℕ) (old new : List ℕ) (P : Type 0) → old ≡ [] → (In i new ↔ (In i old ⊎ P)) → In i new ↔ P
+only_these i old new P none are = (
+  (λ m. elim (are.0 m) [ inl a ↦ absurd (subst (In i) none a) | inr b ↦ b ]),
+  (λ b. are.1 (inr b)),
+)

@@ -1,8 +1,8 @@
 -- What is kept of one item more.
-use Rattle.std.proofs.Common.{◌≡◌, ℕ, ◌+◌, ◌<◌, Bool, true, false, List, [], ◌∷◌, ◌++◌, length, take, get_or}
+use Rattle.std.proofs.Common.{◌≡◌, ℕ, ◌+◌, ◌<◌, ◌≤◌, Bool, true, false, List, [], ◌∷◌, ◌++◌, length, take, get_or}
 use Rattle.std.proofs.Common.{refl, sym, ap, subst, inl, inr, All, AllPairs}
 use Rattle.std.specs.Prelude.{◌↔◌, Option, Result, Ok, Err, OnOk}
-use Rattle.std.proofs.lemmas.List.{take_more}
+use Rattle.std.proofs.lemmas.List.{take_more, take_all}
 use Rattle.gin_opclass.specs.Class.{Meaning}
 use Rattle.core_moments.specs.Walk.{Walk}
 use Rattle.core_state.specs.Log.{In}
@@ -52,6 +52,13 @@ module _ {Q : Type 0} (M : Meaning Q) (q : Q) (w : Walk) (v : Verdict) (items : 
   next_left e of' =
       subst (λ (xs : List ℕ). AreKeptOf M q w xs more) (sym (take_more items k 0 lt))
       (left_out M q w (get_or items k 0) v is (take k items) more e of')
+
+-- all of them are judged
+pub all_kept : {Q : Type 0} (M : Meaning Q) (q : Q) (w : Walk) (items : List ℕ) (k : ℕ) (old new : List (ℕ × Bool))
+    → length items ≤ k → (more : List (ℕ × Bool)) × (new ≡ old ++ more) × AreKeptOf M q w (take k items) more
+    → (more : List (ℕ × Bool)) × (new ≡ old ++ more) × AreKeptOf M q w items more
+all_kept M q w items k old new past m =
+    (m.0, m.1, subst (λ (is : List ℕ). AreKeptOf M q w is m.0) (take_all k items past) m.2)
 
 -- what is kept of the items that were met
 pub judged_by : {Q T E : Type 0} (M : Meaning Q) (q : Q) (all : Bool) (pending main : Hits) (first : Option ℕ)

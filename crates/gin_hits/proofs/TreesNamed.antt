@@ -13,8 +13,9 @@ use Rattle.gin_opclass.specs.Class.{Asked}
 use Rattle.core_moments.specs.Judging.{fits_asked}
 use Rattle.core_moments.specs.OpenWalk.{NamedTree, tree_of}
 use Rattle.gin_hits.specs.Entries.{listed, entries_with, items_under, AreNotedUnder}
-use Rattle.gin_hits.specs.Trees.{trees_under}
+use Rattle.gin_hits.specs.Trees.{named_tree, trees_under}
 use Rattle.gin_hits.specs.declared.hits.Hits.{Hits}
+use Rattle.gin_hits.proofs.FittingEntries.{range_none}
 
 -- an entry that names a tree has no items itself
 none_listed : (e : Entry) (r : ℕ) → e.postings ≡ Root r → items_under (e ∷ []) ≡ []
@@ -56,6 +57,14 @@ noted_tree asked es e r h is noted = record {
 pub trees_more : (es more : List Entry) → trees_under (es ++ more) ≡ trees_under es ++ trees_under more
 trees_more es more = flat_map-append (λ (e : Entry). tree_of true e.key e.postings []) es more
 
+pub one_tree : (e : Entry) (r : ℕ) → e.postings ≡ Root r → trees_under (e ∷ []) ≡ named_tree e.key r ∷ []
+one_tree e r is = ap (λ (p : Postings). tree_of true e.key p [] ++ []) is
+
+pub named_none : (old : List NamedTree) (es : List Entry) (from : ℕ)
+    → old ≡ old ++ trees_under (slice_range es from from)
+named_none old es from =
+    sym (append-nil old) ∙ ap (λ (ds : List Entry). old ++ trees_under ds) (sym (range_none es from))
+
 pub named_next : (old new mid : List NamedTree) (es : List Entry) (e : Entry) (from k : ℕ)
     → mid ≡ old ++ trees_under (slice_range es from k) → new ≡ mid ++ trees_under (e ∷ [])
     → slice_range es from k ++ e ∷ [] ≡ slice_range es from (k + 1)
@@ -65,3 +74,9 @@ named_next old new mid es e from k before one more =
     ∙ append_assoc old (trees_under (slice_range es from k)) (trees_under (e ∷ []))
     ∙ ap (λ (ts : List NamedTree). old ++ ts) (sym (trees_more (slice_range es from k) (e ∷ []))
     ∙ ap trees_under more)
+
+pub named_all : (old new : List NamedTree) (es found : List Entry) (from k end : ℕ) → k ≡ end
+    → slice_range es from end ≡ found → new ≡ old ++ trees_under (slice_range es from k)
+    → new ≡ old ++ trees_under found
+named_all old new es found from k end last all named =
+    named ∙ ap (λ (ds : List Entry). old ++ trees_under ds) (ap (λ (n : ℕ). slice_range es from n) last ∙ all)

@@ -3,8 +3,11 @@
 use Rattle.std.proofs.Common.{◌≡◌, ◌≢◌, ◌⊎◌, ◌↔◌, ℕ, Bool, true, false, cond, not, ◌&&◌, ◌||◌, IsTrue, eqb, nat_eq}
 use Rattle.std.proofs.Common.{List, [], ◌∷◌}
 use Rattle.std.proofs.Common.{map, Option, Some, None, refl, sym, ap, ap₂, subst, ◌∙◌, inl, inr}
+use Rattle.std.proofs.Common.{rules}
+use denote.Enum.Bare.{sameb, same_true, same_false, true_same}
 use Rattle.std.specs.Option.{option_eq}
 use Rattle.std.specs.List.{list_any}
+use Rattle.ts_base.specs.contracts.Tri.{the_type}
 use Rattle.ts_base.specs.declared.Tri.{Tri}
 use Rattle.ts_base.specs.declared.Tri.TheVariants.{False, Maybe, True}
 use Rattle.page_types.specs.declared.page.Row.{Row}
@@ -18,7 +21,7 @@ use Rattle.core_moments.specs.Judging.{starts_row, IsKept, HasYes}
 use Rattle.core_moments.proofs.Judging.{or_left, or_right, any_or_none}
 use Rattle.core_moments.proofs.Words.{and_true, same_number, number_itself}
 use Rattle.gin_hits.specs.Rows.{first_read, first_of_rows}
-use Rattle.gin_hits.specs.Sides.{pending_side, main_side, IsVerdictBy, IsVerdictAlone, IsVerdict, AreKeptOf}
+use Rattle.gin_hits.specs.Sides.{Side, pending_side, main_side, IsVerdictBy, IsVerdictAlone, IsVerdict, AreKeptOf}
 use Rattle.gin_hits.specs.declared.judged.Verdict.{Verdict}
 
 or_either : (a b : Bool) → (a || b) ≡ true → (a ≡ true) ⊎ (b ≡ true)
@@ -28,6 +31,56 @@ or_either false b e = inr e
 not_both : (b : Bool) → b ≡ true → b ≡ false → ⊥
 not_both true e f = cc
 not_both false e f = cc
+
+-- ── by the judge's answers ──
+
+tri_bare : (t u : Tri) → sameb the_type t u ≡ true → t ≡ u
+tri_bare t u e = same_true the_type (search rules) t u e
+
+-- whether two values are the same
+is_so : (t u : Tri) (r : Bool) → r ≡ sameb the_type t u → IsTrue r ↔ (t ≡ u)
+is_so t u r told = ((λ e. tri_bare t u (sym told ∙ e)), (λ e. told ∙ true_same the_type t u e))
+
+-- or not
+not_so : (t u : Tri) (r : Bool) → r ≡ not (sameb the_type t u) → IsTrue r ↔ (t ≢ u)
+not_so t u r told = by (sameb the_type t u) refl
+  where
+    by : (b : Bool) → sameb the_type t u ≡ b → IsTrue r ↔ (t ≢ u)
+    by true f = (
+      (λ e. absurd (let z = sym e ∙ told ∙ ap not f in let y : ⊥ = cc in y)),
+      (λ off. absurd (off (tri_bare t u f))),
+    )
+    by false f = ((λ e. same_false the_type t u f), (λ off. told ∙ ap not f))
+
+module _ {Q : Type 0} (M : Meaning Q) (q : Q) (side : Side) (i : ℕ) (absent : Tri) where
+  -- one answer says whether the item is kept, the other whether there is a yes
+  pub by_answers : (a b : Tri) (kept sure : Bool) → a ≡ M.judged q (values (side.has i) False (M.asked q))
+      → b ≡ M.judged q (values (side.has i) absent (M.asked q)) → kept ≡ not (sameb the_type a False)
+      → sure ≡ sameb the_type b True → IsVerdictBy M q side i absent (record { kept = kept; yes = sure })
+  by_answers a b kept sure one two k y = record {
+    kept = subst (λ (t : Tri). IsTrue kept ↔ (t ≢ False)) one (not_so a False kept k);
+    yes = subst (λ (t : Tri). IsTrue sure ↔ (t ≡ True)) two (is_so b True sure y);
+  }
+
+  -- it is left out
+  pub alone_out : (a : Tri) → a ≡ M.judged q (values (side.has i) False (M.asked q)) → true ≡ sameb the_type a False
+      → IsVerdictAlone M q side i absent (record { kept = false; yes = false })
+  alone_out a one same = record {
+    kept = (
+      (λ e. absurd (let z : ⊥ = cc in z)),
+      (λ off. absurd (off (sym one ∙ tri_bare a False (sym same)))),
+    );
+    yes = λ e. absurd (let z : ⊥ = cc in z);
+  }
+
+  -- it is kept
+  pub alone_kept : (a b : Tri) (sure : Bool) → a ≡ M.judged q (values (side.has i) False (M.asked q))
+      → b ≡ M.judged q (values (side.has i) absent (M.asked q)) → false ≡ sameb the_type a False
+      → sure ≡ sameb the_type b True → IsVerdictAlone M q side i absent (record { kept = true; yes = sure })
+  alone_kept a b sure one two other y = record {
+    kept = ((λ e j. same_false the_type a False (sym other) (one ∙ j)), (λ off. refl));
+    yes = λ e. subst (λ (t : Tri). IsTrue sure ↔ (t ≡ True)) two (is_so b True sure y);
+  }
 
 -- ── the item of the first row ──
 

@@ -13,7 +13,7 @@ use page_types::{Entries, EntryRef, PostingsRef};
 use std::alloc::{AllocError, Global};
 
 /// A posting tree that an entry of a leaf named.
-#[derive(Debug, Drop)]
+#[derive(Drop)]
 pub struct TreeRoot {
     /// The entry's key.
     pub key: Vec<u8>,
@@ -31,9 +31,8 @@ fn add_tree(
     ensures { OnOk result (trees_of trees.new.items
         ≡ trees_of trees.old.items ++ named_tree key.now root ∷ []) }
 {
-    let mut copy = Vec::new(alloc);
-    copy.extend_from_slice(key)?;
-    trees.push(TreeRoot { key: copy, root })?;
+    let key = Vec::from_slice(alloc, key)?;
+    trees.push(TreeRoot { key, root })?;
     Ok(())
 }
 

@@ -18,7 +18,7 @@ use std::alloc::{AllocError, Global};
 
 /// The items that were read on one side of the index: all of them, and for each key that is asked those
 /// of which a key was read that fits it.
-#[derive(Debug, Drop)]
+#[derive(Drop)]
 pub struct Hits {
     /// All items, as they were read.
     pub any: Vec<u32>,

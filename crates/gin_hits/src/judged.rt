@@ -19,7 +19,7 @@ use ts_base::Tri;
 
 /// What is known of an item without its vector: whether it is kept, and whether it satisfies the query
 /// for sure.
-#[derive(Clone, Copy, Debug)]
+#[derive(Clone, Copy)]
 pub(crate) struct Verdict {
     pub(crate) kept: bool,
     pub(crate) yes: bool,
@@ -267,21 +267,35 @@ fn add_all(items: &mut Vec<u32>, lists: &[Vec<u32>]) -> Result<(), AllocError>
     Ok(())
 }
 
-/// The items that may be kept, rising. Where the whole index isn't read these are those with a key that
-/// fits one that is asked, since the judge answers False where there is none.
+/// Adds the items that may be kept. Where the whole index isn't read these are those with a key that fits one that is
+/// asked, since the judge answers False where there is none.
+fn add_possible(
+    items: &mut Vec<u32>,
+    pending: &Hits,
+    main: &Hits,
+    all: bool,
+) -> Result<(), AllocError>
+    ensures { OnOk result ((i : ℕ) → In i items.new.items
+        ↔ (In i items.old.items ⊎ MayBeKept all pending.now main.now i)) }
+{
+    if all {
+        items.extend_from_slice(pending.any.as_slice())?;
+        items.extend_from_slice(main.any.as_slice())?;
+        return Ok(());
+    }
+    add_all(items, pending.by_key.as_slice())?;
+    add_all(items, main.by_key.as_slice())?;
+    Ok(())
+}
+
+/// The items that may be kept, rising.
 fn items_of(alloc: Global, pending: &Hits, main: &Hits, all: bool) -> Result<Vec<u32>, AllocError>
     ensures rising { IfOk result (λ v. AllPairs (λ i j. i < j) v.items) }
     ensures just { IfOk result (λ v. (i : ℕ)
         → In i v.items ↔ MayBeKept all pending.now main.now i) }
 {
     let mut items = Vec::new(alloc);
-    if all {
-        items.extend_from_slice(pending.any.as_slice())?;
-        items.extend_from_slice(main.any.as_slice())?;
-    } else {
-        add_all(&mut items, pending.by_key.as_slice())?;
-        add_all(&mut items, main.by_key.as_slice())?;
-    }
+    add_possible(&mut items, pending, main, all)?;
     items.sort()?;
     items.dedup();
     Ok(items)
@@ -346,8 +360,8 @@ pub fn judge_met<Q, W: Meaning<Q>, C: CompareKeys, J: Judge<Q, W>>(
     ensures judged { OnOk result (AreJudged (meaning W.asked W.all W.satisfies W.judged) query.now all
         pending.now main.now first_item kept.old.items kept.new.items) }
 {
-    let mut judging = Judging::new(alloc, pending.by_key.len())?;
     let items = items_of(alloc, pending, main, all)?;
+    let mut judging = Judging::new(alloc, pending.by_key.len())?;
     add_kept(
         class,
         query,

@@ -1,11 +1,25 @@
-use Rattle.std.proofs.Common.{◌++◌, map, slice_range, sym}
+-- The entries that fit are noted one after another.
+use Rattle.std.proofs.Common.{◌≡◌, ◌++◌, map, slice_range, sym, arith}
+use Rattle.std.proofs.lemmas.Result.{err_from_is_err_and}
 use Rattle.page_types.specs.Parts.{entry_shown}
 use Rattle.gin_hits.specs.Rows.{asked_by}
 use Rattle.gin_hits.specs.Trees.{trees_of}
 use Rattle.gin_hits.proofs.FittingEntries.{range_more}
-use Rattle.gin_hits.proofs.AddedEntries.{noted_next}
-use Rattle.gin_hits.proofs.TreesNamed.{named_next}
+use Rattle.gin_hits.proofs.AddedEntries.{noted_next, noted_none, noted_all}
+use Rattle.gin_hits.proofs.TreesNamed.{named_next, named_none, named_all}
 use Rattle.gin_hits.proofs.hits.Hits.add_entries.Goals as goal
+
+pub fitting-from-requires : goal.fitting-from-requires
+fitting-from-requires g c = c.requires.entries
+
+pub loop-k-init : goal.loop-k-init
+loop-k-init g c =
+    let es = c.args.entries.now in
+    let from = c.fitting-from.result.0 in record {
+      lists = c.requires.lists;
+      noted = λ before noted. noted_none (map asked_by c.args.asked.now) before es from c.args.self.now noted;
+      named = named_none (trees_of c.args.trees.now.items) es from;
+    }
 
 pub loop-k-preserved : goal.loop-k-preserved
 loop-k-preserved g c =
@@ -23,4 +37,29 @@ loop-k-preserved g c =
       named = named_next (trees_of c.args.trees.now.items) (trees_of c.note_entry.new.trees.items)
           (trees_of c.loop-k.trees.items) es e from k was.named c.in_ok-note_entry.ensures.named
           (sym (range_more es from k e c.loop-k.auto.k c.in-Some.ensures.some));
+    }
+
+pub returns-in_default : goal.returns-in_default
+returns-in_default g c =
+    absurd (omega (arith, c.in_default.ensures.none, c.loop-k-test.true, c.fitting-from.ensures.within))
+
+pub returns-in_err-note_entry : goal.returns-in_err-note_entry
+returns-in_err-note_entry g c =
+    let p = err_from_is_err_and c.from_residual.result c.from_residual.ensures.1 in
+    rw p.1 (record { lists = c.note_entry.ensures.lists; noted = tt; named = tt })
+
+pub returns : goal.returns
+returns g c =
+    let k = c.loop-k.k in
+    let was = c.loop-k.invariant in
+    let end = c.fitting-from.result.1 in
+    let last : k ≡ end =
+    omega (arith, c.loop-k-test.false, c.loop-k.auto.k-end, c.fitting-from.ensures.ordered) in
+    record {
+      lists = was.lists;
+      noted = λ before noted.
+          noted_all (map asked_by c.args.asked.now) before c.args.entries.now _ c.fitting-from.result.0 k end
+          c.loop-k.self last c.fitting-from.ensures.are (was.noted before noted);
+      named = named_all (trees_of c.args.trees.now.items) (trees_of c.loop-k.trees.items) c.args.entries.now _
+          c.fitting-from.result.0 k end last c.fitting-from.ensures.are was.named;
     }

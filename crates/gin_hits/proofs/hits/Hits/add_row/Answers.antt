@@ -1,4 +1,4 @@
-use Rattle.std.proofs.Common.{◌≡◌, ◌∙◌, List, length, map, take, ap, arith}
+use Rattle.std.proofs.Common.{◌≡◌, ◌∙◌, List, length, map, take, refl, ap, arith}
 use Rattle.std.proofs.lemmas.List.{length-map, length-set, take_all}
 use Rattle.page_types.specs.Parts.{row_shown}
 use Rattle.gin_opclass.specs.Class.{Asked}
@@ -7,6 +7,9 @@ use Rattle.gin_hits.specs.declared.hits.Hits.{Hits}
 use Rattle.gin_hits.proofs.AddedRows.{added, step_fitting, step_other, fits_told, noted_row}
 use Rattle.gin_hits.proofs.hits.Hits.add_row.Goals as goal
 use Rattle.gin_hits.proofs.hits.Hits.add_row.Goals.{then-has_fitting+in_ok-push-2, else-has_fitting}
+
+pub loop-k-init : goal.loop-k-init
+loop-k-init g c = record { lists = c.requires.lists; any = refl; by_key = refl }
 
 pub loop-k-preserved : goal.loop-k-preserved
 loop-k-preserved g c =
