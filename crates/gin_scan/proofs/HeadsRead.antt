@@ -2,6 +2,7 @@
 use Rattle.std.proofs.Common.{◌≡◌, ◌↔◌, ℕ, zero, suc, ◌+◌, ◌-◌, ◌<◌, ◌≤◌, Bool, IsTrue}
 use Rattle.std.proofs.Common.{List, [], ◌∷◌, length, take, drop}
 use Rattle.std.proofs.Common.{Some, get_or, refl, sym, ap, subst, ◌∙◌, inl, inr, arith, slice_get, AllPairs}
+use Rattle.std.proofs.Common.{◌⊎◌, false, below_more}
 use Rattle.std.specs.Prelude.{slice_range}
 use Rattle.std.proofs.lemmas.Option.{get_or_from_slice_get, slice_get_within}
 use Rattle.disk_trait.specs.declared.device.Disk.{Ghosts as Disk}
@@ -259,3 +260,35 @@ module _ {Q D : Type 0} (M : Meaning Q) (sound : JudgeIsSound M) (q : Q) (device
   heap_of_kept s from j k i =
       kept_lie M R pin q j.is_walk.sought j.walk k.0 P known.legal known.keeps j.is_walk.is_walk j.is_walk.reads
       ((j.kept.just k.0).0 (in_map (λ (x : ℕ × Bool). x.0) k s.kept.items i)) shown
+
+-- ── the kept items on a page ──
+
+module _ (kept : List (ℕ × Bool)) (from end page : ℕ) where
+  -- one more is on it
+  pub here_next : ((k item : ℕ) (sure : Bool) → from ≤ k → k < end → slice_get kept k ≡ Some (item, sure)
+      → page_of item ≡ page) → page_of (get_or kept end (0, false)).0 ≡ page → (k item : ℕ) (sure : Bool) → from ≤ k
+      → k < end + 1 → slice_get kept k ≡ Some (item, sure) → page_of item ≡ page
+  here_next was one k item sure low high at =
+      below_more
+      (λ (j : ℕ). (i : ℕ) (b : Bool) → from ≤ j → slice_get kept j ≡ Some (i, b) → page_of i ≡ page) end
+      (λ j lt i b le there. was j i b le lt there)
+      (λ i b le there. ap (λ (x : ℕ × Bool). page_of x.0) (sym (get_or_from_slice_get kept end (i, b) (0, false) there))
+      ∙ one) k high item sure low at
+
+  -- the next one is not
+  pub next_off : (page_of (get_or kept end (0, false)).0 ≡ page → ⊥) → (k : ℕ × Bool) → slice_get kept end ≡ Some k
+      → page_of k.0 ≡ page → ⊥
+  next_off off k there is =
+      off (ap (λ (x : ℕ × Bool). page_of x.0) (get_or_from_slice_get kept end k (0, false) there) ∙ is)
+
+  -- so if the first one is, there is one
+  pub some_here : from ≤ end → (page_of (get_or kept end (0, false)).0 ≡ page → ⊥) → (item : ℕ) (sure : Bool)
+      → slice_get kept from ≡ Some (item, sure) → page_of item ≡ page → from < end
+  some_here le off item sure there is = elim (lt_or_same from end le) [
+    | inl lt ↦ lt
+    | inr same ↦ absurd (next_off off (item, sure)
+        (subst (λ (j : ℕ). slice_get kept j ≡ Some (item, sure)) same there) is)
+  ]
+    where
+      lt_or_same : (a b : ℕ) → a ≤ b → (a < b) ⊎ (a ≡ b)
+      lt_or_same a b h = grind arith

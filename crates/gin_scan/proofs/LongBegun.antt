@@ -112,6 +112,10 @@ pub long_snapshot : (s s' : ScanCore) (at : ℕ) → BeginsLong s at s' → s'.s
 long_snapshot s s' at (BeginsLong.next l there small none same) = ap (λ (z : ScanCore). z.snapshot) same
 long_snapshot s s' at (BeginsLong.end past order up same) = ap (λ (z : ScanCore). z.snapshot) same
 
+pub long_took : (s s' : ScanCore) (at : ℕ) → BeginsLong s at s' → s'.took_pin ≡ s.took_pin
+long_took s s' at (BeginsLong.next l there small none same) = ap (λ (z : ScanCore). z.took_pin) same
+long_took s s' at (BeginsLong.end past order up same) = ap (λ (z : ScanCore). z.took_pin) same
+
 -- ── the bound on steps ──
 
 -- a vector's pages are fewer than 2 ^ 33

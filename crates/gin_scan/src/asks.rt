@@ -64,7 +64,7 @@ pub(crate) fn page_of(item: u32) -> u32
 }
 
 /// Which of these items have a head on the heap page that a snapshot of so many commits sees.
-#[derive(Drop)]
+#[derive(Clone, Copy)]
 pub(crate) struct SeenHeads<'a> {
     pub(crate) alloc: Global,
     pub(crate) page: &'a Page,

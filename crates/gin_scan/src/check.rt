@@ -8,10 +8,10 @@ ghost use Rattle.gin_scan.specs.Inner.Heads.{TellsOf};
 
 use crate::lexemes::judge_own;
 use gin_opclass::{Judge, Meaning};
-use ts_base::{Tri, encoding_tells_vector};
+use ts_base::Tri;
 use ts_match::{MatchWork, TextJudge, matches_encoded};
 use ts_query::TsQuery;
-use ts_vector::{VectorBytes, bad_bytes_are_no_encoding};
+use ts_vector::VectorBytes;
 
 /// Whether a vector satisfies a query whose meaning W names, by the work that a judge of such queries
 /// uses.
@@ -24,14 +24,13 @@ pub trait Check<Q, W: Meaning<Q>, J: Judge<Q, W>> {
 }
 
 /// The check of text queries.
-#[derive(Clone, Copy, Debug, Default)]
+#[derive(Clone, Copy)]
 pub struct TextCheck;
 
 /// Whether these bytes encode a vector. They are read where they lie.
 fn encode_vector(bytes: &[u8]) -> bool
     ensures { IsTrue result ↔ ((v : Vector) × IsEncoding bytes.now v) }
 {
-    bad_bytes_are_no_encoding();
     let vector = VectorBytes::new(bytes);
     vector.is_ok()
 }
@@ -42,8 +41,6 @@ fn matches_bytes(query: &TsQuery, work: &mut MatchWork, bytes: &[u8]) -> bool
     ensures tells { TellsOf (Holds query.now) bytes.now result }
     ensures work { work.new ≡ work.old }
 {
-    encoding_tells_vector();
-    bad_bytes_are_no_encoding();
     match VectorBytes::new(bytes) {
         Ok(vector) => matches_encoded(query, work, &vector),
         Err(_) => false,

@@ -3,7 +3,7 @@ use page_types::Name;
 
 /// What a scan has found: the names of the snapshot's documents that satisfy the query, by serial; how
 /// many heads it read, of how many documents that the judge did not leave out; and how many pages.
-#[derive(Debug, Drop)]
+#[derive(Drop)]
 pub struct Found {
     /// The names, by serial.
     pub names: Vec<Name>,

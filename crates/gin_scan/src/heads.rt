@@ -1,5 +1,5 @@
 // What a scan reads of heap pages.
-ghost use Rattle.std.specs.Prelude.{◌≡◌, ◌≢◌, ◌↔◌, ◌⊎◌, ℕ, ◌+◌, ◌<◌, ◌≤◌, Bool, List, Option, Some, [], ◌∷◌};
+ghost use Rattle.std.specs.Prelude.{◌≡◌, ◌↔◌, ◌⊎◌, ℕ, ◌+◌, ◌<◌, ◌≤◌, Bool, List, Some, [], ◌∷◌};
 ghost use Rattle.std.specs.Prelude.{◌++◌, length, slice_range, IsTrue, IfErr, OnOk};
 ghost use Rattle.std.specs.List.{slice_get};
 ghost use Rattle.page_types.specs.Parts.{head_shown};
@@ -211,40 +211,6 @@ impl ScanCore {
         Ok(())
     }
 
-    /// Reads the heap page of a kept item, for all kept items that are on it.
-    pub(crate) fn read_heads<D: Disk, Q, W: Meaning<Q>, J: Judge<Q, W>, M: Check<Q, W, J>>(
-        &mut self,
-        at: usize,
-        alloc: Global,
-        frames: &mut Frames<D>,
-        pass: &mut Pass,
-        query: &Q,
-        work: &mut W,
-        check: &M,
-    ) -> Result<(), FrameError>
-        requires may { MayStep D.Disk (meaning W.asked W.all W.satisfies W.judged) query.now
-            frames.old pass.old self.old }
-        requires stage { self.old.stage ≡ stages.Heads at }
-        requires more { at < length self.old.kept.items }
-        requires serves { J.serves work.old query.now }
-        ensures serves { J.serves work.new query.now }
-        ensures is_step { IsStepOf D.Disk (meaning W.asked W.all W.satisfies W.judged) query.now
-            frames.old pass.old self.old frames.new pass.new self.new result }
-    {
-        let number = page_of(self.kept[at].0);
-        let end = end_of_page(self.kept.as_slice(), at, number);
-        let held = hold_page(frames, pass, number)?;
-        let page = held.page();
-        let read = self.read_page(
-            alloc, frames, pass, query, work, check, page, number, at, end,
-        );
-        frames.release(pass, held);
-        read?;
-        self.pages_read = one_more(self.pages_read);
-        self.stage = Stage::Heads { at: end };
-        Ok(())
-    }
-
     /// Reads the heap page of the kept item with this number, or ends the heads where there is none.
     pub(crate) fn go_on_heads<D: Disk, Q, W: Meaning<Q>, J: Judge<Q, W>, M: Check<Q, W, J>>(
         &mut self,
@@ -264,10 +230,21 @@ impl ScanCore {
         ensures is_step { IsStepOf D.Disk (meaning W.asked W.all W.satisfies W.judged) query.now
             frames.old pass.old self.old frames.new pass.new self.new result }
     {
-        if at < self.kept.len() {
-            return self.read_heads(at, alloc, frames, pass, query, work, check);
+        if at >= self.kept.len() {
+            self.begin_long(0);
+            return Ok(());
         }
-        self.end_heads(frames, pass, query, work);
+        let number = page_of(self.kept[at].0);
+        let end = end_of_page(self.kept.as_slice(), at, number);
+        let held = hold_page(frames, pass, number)?;
+        let page = held.page();
+        let read = self.read_page(
+            alloc, frames, pass, query, work, check, page, number, at, end,
+        );
+        frames.release(pass, held);
+        read?;
+        self.pages_read = one_more(self.pages_read);
+        self.stage = Stage::Heads { at: end };
         Ok(())
     }
 }

@@ -1,5 +1,5 @@
 // What a scan reads of the tree of keys.
-ghost use Rattle.std.specs.Prelude.{◌≡◌, ◌≢◌, ◌⊎◌, ℕ, ◌^◌, ◌-◌, ◌<◌, length, map, Some, IfOk, IfErr, OnOk};
+ghost use Rattle.std.specs.Prelude.{◌≡◌, ◌⊎◌, ℕ, ◌^◌, ◌-◌, ◌<◌, length, map, Some, IfOk, IfErr, OnOk};
 ghost use Rattle.std.specs.List.{slice_get};
 ghost use Rattle.page_types.specs.Pages.{IsPage};
 ghost use Rattle.buffer_frames.specs.declared.frame_error.FrameError.TheVariants.{BadPage, OutOfMemory};
@@ -85,7 +85,7 @@ impl ScanCore {
     ghost use Rattle.gin_scan.specs.Causes.{HasWay};
     ghost use Rattle.gin_scan.specs.Scanning.{IsScan, sought_in};
     ghost use Rattle.gin_scan.specs.Inner.Steps.{MayStep, HasStepped, IsStepOf};
-    ghost use Rattle.gin_scan.specs.Inner.Ways.{NotesLeaf, GoesOn, GoesToTree, IsOnWalk, stage_with};
+    ghost use Rattle.gin_scan.specs.Inner.Ways.{NotesLeaf, GoesOn, GoesToTree, IsOnWalk};
     ghost use Rattle.gin_scan.specs.declared.stage.Stage.TheVariants as stages;
 
     /// How many walks go through the tree: one for each key that is asked, or one for all.
@@ -108,42 +108,8 @@ impl ScanCore {
         };
     }
 
-    /// Notes the entries that fit on a leaf, which has this number: the leaf that is next, or 0.
-    fn note_leaf<Q, W: Meaning<Q>, C: CompareKeys, J: Judge<Q, W>>(
-        &mut self,
-        alloc: Global,
-        class: &OpClass<Q, W, C, J>,
-        page: &Page,
-        number: u32,
-        key: usize,
-    ) -> Result<u32, FrameError>
-        requires scan { IsScan self.old }
-        requires page { IsPage page.now }
-        ensures took { self.new.took_pin ≡ self.old.took_pin }
-        ensures leaf { OnOk result (IsLeaf page.now) }
-        ensures beyond { IfOk result (λ next. (w : Sought) → slice_get (sought_in self.old) key ≡ Some w
-            → next ≡ walk.beyond w page.now) }
-        ensures noted { OnOk result (NotesLeaf self.old key page.now self.new) }
-        ensures rest { OnOk result (self.new ≡ record self.old { main = self.new.main; roots = self.new.roots }) }
-        ensures lists { OnOk result
-            (length self.new.main.by_key.items ≡ length self.old.main.by_key.items) }
-        ensures bad { IfErr result (λ e. (e ≡ OutOfMemory) ⊎ ((e ≡ BadPage number) × (IsLeaf page.now → ⊥))) }
-    {
-        note_entries(
-            alloc,
-            class,
-            &self.keys,
-            self.order.as_slice(),
-            page,
-            number,
-            key,
-            &mut self.main,
-            &mut self.roots,
-        )
-    }
-
-    /// Notes the entries that fit on a leaf, which has this number: what is read then, where so many pages of the way
-    /// were read.
+    /// Notes the entries of a leaf, which has this number, that fit what the walk with that number looks for: their
+    /// items, and the posting trees that they name. What is read then, where so many pages of the way were read.
     fn pass_leaf<Q, W: Meaning<Q>, C: CompareKeys, J: Judge<Q, W>>(
         &mut self,
         alloc: Global,
@@ -166,7 +132,17 @@ impl ScanCore {
         ensures bad { IfErr result (λ e. (e ≡ OutOfMemory) ⊎ ((e ≡ BadPage number) × (IsLeaf page.now → ⊥))) }
     {
         let from = self.roots.len();
-        let then = self.note_leaf(alloc, class, page, number, key)?;
+        let then = note_entries(
+            alloc,
+            class,
+            &self.keys,
+            self.order.as_slice(),
+            page,
+            number,
+            key,
+            &mut self.main,
+            &mut self.roots,
+        )?;
         Ok(self.next_tree(key, from, then, read))
     }
 
@@ -205,66 +181,6 @@ impl ScanCore {
         }
         let stage = self.pass_leaf(alloc, class, page, number, key, read)?;
         Ok(stage)
-    }
-
-    /// Reads a page on the way of a key.
-    fn read_way<D: Disk, Q, W: Meaning<Q>, C: CompareKeys, J: Judge<Q, W>>(
-        &mut self,
-        alloc: Global,
-        frames: &mut Frames<D>,
-        pass: &mut Pass,
-        class: &OpClass<Q, W, C, J>,
-        query: &Q,
-        key: usize,
-        page: u32,
-        left: u32,
-    ) -> Result<(), FrameError>
-        requires may { MayStep D.Disk (meaning W.asked W.all W.satisfies W.judged) query.now
-            frames.old pass.old self.old }
-        requires stage { self.old.stage ≡ stages.Down key page left }
-        requires some { key < length (sought_in self.old) }
-        requires more { left ≢ 0 }
-        ensures is_step { IsStepOf D.Disk (meaning W.asked W.all W.satisfies W.judged) query.now
-            frames.old pass.old self.old frames.new pass.new self.new result }
-    {
-        let _ = query;
-        let read = self.most_pages().saturating_sub(left - 1);
-        let held = hold_page(frames, pass, page)?;
-        let next = self.note_way(alloc, class, held.page(), page, key, left - 1, read);
-        frames.release(pass, held);
-        self.pages_read = one_more(self.pages_read);
-        self.stage = next?;
-        Ok(())
-    }
-
-    /// Reads a leaf after the one of the key.
-    fn read_leaf<D: Disk, Q, W: Meaning<Q>, C: CompareKeys, J: Judge<Q, W>>(
-        &mut self,
-        alloc: Global,
-        frames: &mut Frames<D>,
-        pass: &mut Pass,
-        class: &OpClass<Q, W, C, J>,
-        query: &Q,
-        key: usize,
-        page: u32,
-        left: u32,
-    ) -> Result<(), FrameError>
-        requires may { MayStep D.Disk (meaning W.asked W.all W.satisfies W.judged) query.now
-            frames.old pass.old self.old }
-        requires stage { self.old.stage ≡ stages.Leaf key page left }
-        requires some { page ≢ 0 }
-        requires more { left ≢ 0 }
-        ensures is_step { IsStepOf D.Disk (meaning W.asked W.all W.satisfies W.judged) query.now
-            frames.old pass.old self.old frames.new pass.new self.new result }
-    {
-        let _ = query;
-        let read = self.most_pages().saturating_sub(left - 1);
-        let held = hold_page(frames, pass, page)?;
-        let next = self.pass_leaf(alloc, class, held.page(), page, key, read);
-        frames.release(pass, held);
-        self.pages_read = one_more(self.pages_read);
-        self.stage = next?;
-        Ok(())
     }
 
     /// Judges all items that were read. It reads no page.
@@ -307,19 +223,6 @@ impl ScanCore {
         Ok(())
     }
 
-    /// Pages go as far as this now, further than when that was last asked, and the walk goes on.
-    pub(crate) fn raise_on_way(&mut self, extent: u32)
-        requires further { self.old.extent < extent }
-        ensures raised { self.new ≡ record self.old {
-          stage = stage_with self.old.stage (extent - self.old.extent);
-          extent = extent;
-        } }
-        ensures within { extent < 2 ^ 32 }
-    {
-        self.stage = self.stage.with_left(extent - self.extent);
-        self.extent = extent;
-    }
-
     /// Goes on with a walk if pages go further now than when that was last asked, and else begins the next one.
     fn go_further_on_way<D: Disk, Q, W: Meaning<Q>>(
         &mut self,
@@ -340,7 +243,7 @@ impl ScanCore {
         let _ = work;
         let extent = look_on(frames, pass, &Extent)?;
         if extent > self.extent {
-            self.raise_on_way(extent);
+            self.raise_extent(extent);
             return Ok(());
         }
         self.begin_walk(key + 1);
@@ -375,7 +278,13 @@ impl ScanCore {
         if left == 0 {
             return self.go_further_on_way(frames, pass, query, work, key);
         }
-        self.read_way(alloc, frames, pass, class, query, key, page, left)
+        let read = self.most_pages().saturating_sub(left - 1);
+        let held = hold_page(frames, pass, page)?;
+        let next = self.note_way(alloc, class, held.page(), page, key, left - 1, read);
+        frames.release(pass, held);
+        self.pages_read = one_more(self.pages_read);
+        self.stage = next?;
+        Ok(())
     }
 
     /// Reads the next leaf, or begins the next walk where there is none.
@@ -404,6 +313,12 @@ impl ScanCore {
         if left == 0 {
             return self.go_further_on_way(frames, pass, query, work, key);
         }
-        self.read_leaf(alloc, frames, pass, class, query, key, page, left)
+        let read = self.most_pages().saturating_sub(left - 1);
+        let held = hold_page(frames, pass, page)?;
+        let next = self.pass_leaf(alloc, class, held.page(), page, key, read);
+        frames.release(pass, held);
+        self.pages_read = one_more(self.pages_read);
+        self.stage = next?;
+        Ok(())
     }
 }

@@ -1,5 +1,5 @@
 // What the lexemes of an encoded vector say of a query, read where they lie. The bytes are not checked.
-ghost use Rattle.std.specs.Prelude.{◌≡◌, ◌<◌, All, List, drop, take, length};
+ghost use Rattle.std.specs.Prelude.{◌≡◌, ◌<◌, All, drop, take, length};
 ghost use Rattle.std.specs.List.{flat_map};
 ghost use Rattle.ts_base.specs.Encoding.{IsEncoding, entry_bytes};
 ghost use Rattle.ts_base.specs.Vectors.{Vector, IsEntry};

@@ -1,7 +1,6 @@
 // What a scan reads of long vectors, and the end of a scan.
-ghost use Rattle.std.specs.Prelude.{◌≡◌, ◌≢◌, ◌↔◌, ◌⊎◌, ℕ, ◌+◌, ◌<◌, ◌≤◌, ◌++◌, length, true};
-ghost use Rattle.std.specs.Prelude.{IsTrue, Some, IfOk, IfErr, OnOk};
-ghost use Rattle.std.specs.List.{slice_get};
+ghost use Rattle.std.specs.Prelude.{◌≡◌, ◌↔◌, ◌⊎◌, ℕ, ◌+◌, ◌<◌, ◌≤◌, ◌++◌, length};
+ghost use Rattle.std.specs.Prelude.{IsTrue, IfOk, IfErr, OnOk};
 ghost use Rattle.std.specs.List.Sorted.{IsPermutation, IsNonDecreasingBy};
 ghost use Rattle.page_types.specs.Views.{part_of};
 ghost use Rattle.page_types.specs.declared.page.Name.{Name as NameValue};
@@ -43,7 +42,6 @@ fn put_by_serial(names: &mut Vec<Name>)
 }
 
 impl ScanCore {
-    ghost use Rattle.gin_scan.specs.Scanning.{IsScan};
     ghost use Rattle.gin_scan.specs.Inner.Steps.{MayStep, HasStepped, IsStepOf};
     ghost use Rattle.gin_scan.specs.Inner.Parts.{IsReadUp, BeginsLong, AddsIfTold};
     ghost use Rattle.gin_scan.specs.declared.stage.Stage.TheVariants as stages;
@@ -73,29 +71,6 @@ impl ScanCore {
         self.stage = Stage::Done;
     }
 
-    /// Ends the heads, all of which were read.
-    pub(crate) fn end_heads<D: Disk, Q, W: Meaning<Q>>(
-        &mut self,
-        frames: &Frames<D>,
-        pass: &Pass,
-        query: &Q,
-        work: &W,
-    )
-        requires may { MayStep D.Disk (meaning W.asked W.all W.satisfies W.judged) query.now
-            frames.now pass.now self.old }
-        requires stage { (at : ℕ) × (self.old.stage ≡ stages.Heads at)
-            × (length self.old.kept.items ≤ at) }
-        ensures took { self.new.took_pin ≡ self.old.took_pin }
-        ensures stepped { HasStepped D.Disk (meaning W.asked W.all W.satisfies W.judged) query.now
-            frames.now pass.now self.old frames.now pass.now self.new }
-    {
-        let _ = frames;
-        let _ = pass;
-        let _ = query;
-        let _ = work;
-        self.begin_long(0);
-    }
-
     /// Whether no part more is read of the vector that waits under this number: there is none, or there are
     /// more bytes than it has.
     fn is_read(&self, at: usize, page: u32, left: u32) -> bool
@@ -103,38 +78,6 @@ impl ScanCore {
         ensures { IsTrue result ↔ IsReadUp self.now at page left }
     {
         page == 0 || left == 0 || self.bytes.len() > self.long[at].size as usize
-    }
-
-    /// Reads a part of the vector that waits under this number.
-    fn read_part<D: Disk, Q, W: Meaning<Q>>(
-        &mut self,
-        at: usize,
-        page: u32,
-        left: u32,
-        frames: &mut Frames<D>,
-        pass: &mut Pass,
-        query: &Q,
-        work: &W,
-    ) -> Result<(), FrameError>
-        requires may { MayStep D.Disk (meaning W.asked W.all W.satisfies W.judged) query.now
-            frames.old pass.old self.old }
-        requires stage { self.old.stage ≡ stages.Parts at page left }
-        requires more { IsReadUp self.old at page left → ⊥ }
-        ensures is_step { IsStepOf D.Disk (meaning W.asked W.all W.satisfies W.judged) query.now
-            frames.old pass.old self.old frames.new pass.new self.new result }
-    {
-        let _ = query;
-        let _ = work;
-        let held = hold_page(frames, pass, page)?;
-        let right = add_part_of(held.page(), page, &mut self.bytes);
-        frames.release(pass, held);
-        self.pages_read = one_more(self.pages_read);
-        self.stage = Stage::Parts {
-            at,
-            page: right?,
-            left: left - 1,
-        };
-        Ok(())
     }
 
     /// Takes the name of the vector that waits under this number, if the bytes that were read are all and
@@ -214,6 +157,15 @@ impl ScanCore {
             self.match_long(frames, pass, query, work, check, at)?;
             return Ok(());
         }
-        self.read_part(at, page, left, frames, pass, query, work)
+        let held = hold_page(frames, pass, page)?;
+        let right = add_part_of(held.page(), page, &mut self.bytes);
+        frames.release(pass, held);
+        self.pages_read = one_more(self.pages_read);
+        self.stage = Stage::Parts {
+            at,
+            page: right?,
+            left: left - 1,
+        };
+        Ok(())
     }
 }

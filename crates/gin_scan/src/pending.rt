@@ -1,5 +1,5 @@
 // What a scan reads of the metapage and of the pending list.
-ghost use Rattle.std.specs.Prelude.{◌≡◌, ℕ, ◌⊎◌, List, Option, Some, IfOk, IfErr, IfSome, IfNone, OnOk};
+ghost use Rattle.std.specs.Prelude.{◌≡◌, ◌⊎◌, List, Option, Some, IfOk, IfErr, IfSome, IfNone, OnOk};
 ghost use Rattle.page_types.specs.Views.{kept_rows_of, first_of};
 ghost use Rattle.page_types.specs.declared.page.Row.{Row};
 ghost use Rattle.buffer_frames.specs.declared.frame_error.FrameError.TheVariants.{BadPage, OutOfMemory};
@@ -49,11 +49,12 @@ fn first_item(rows: &Rows) -> Option<u32>
 }
 
 impl ScanCore {
-    ghost use Rattle.std.specs.Prelude.{◌≢◌, ◌-◌, ◌^◌, ◌<◌, [], ◌∷◌, ◌++◌, length, true, false, cond};
+    ghost use Rattle.std.specs.Prelude.{◌≢◌, ◌-◌, ◌^◌, ◌<◌, ◌++◌, length, true, cond};
     ghost use Rattle.page_types.specs.Pages.{IsPage};
     ghost use Rattle.gin_hits.specs.Rows.{AreNoted};
-    ghost use Rattle.gin_scan.specs.Scanning.{IsScan, AsksFor, asked_in};
+    ghost use Rattle.gin_scan.specs.Scanning.{IsScan, asked_in};
     ghost use Rattle.gin_scan.specs.Inner.Steps.{MayStep, IsStepOf};
+    ghost use Rattle.gin_scan.specs.Inner.Ways.{stage_with};
     ghost use Rattle.gin_scan.specs.declared.stage.Stage.TheVariants as stages;
     ghost use Rattle.core_moments.specs.Walk.{rightward};
 
@@ -131,49 +132,16 @@ impl ScanCore {
         Ok(page.right)
     }
 
-    /// Reads a page of the pending list.
-    fn read_pending<D: Disk, Q, W: Meaning<Q>, C: CompareKeys, J: Judge<Q, W>>(
-        &mut self,
-        frames: &mut Frames<D>,
-        pass: &mut Pass,
-        class: &OpClass<Q, W, C, J>,
-        query: &Q,
-        page: u32,
-        left: u32,
-    ) -> Result<(), FrameError>
-        requires may { MayStep D.Disk (meaning W.asked W.all W.satisfies W.judged) query.now
-            frames.old pass.old self.old }
-        requires stage { self.old.stage ≡ stages.Pending page left }
-        requires some { page ≢ 0 }
-        requires more { left ≢ 0 }
-        ensures is_step { IsStepOf D.Disk (meaning W.asked W.all W.satisfies W.judged) query.now
-            frames.old pass.old self.old frames.new pass.new self.new result }
-    {
-        let _ = query;
-        let held = hold_page(frames, pass, page)?;
-        let right = self.note_rows(class, held.page(), page);
-        frames.release(pass, held);
-        self.pages_read = one_more(self.pages_read);
-        self.stage = Stage::Pending {
-            page: right?,
-            left: left - 1,
-        };
-        Ok(())
-    }
-
-    /// Pages go as far as this now, further than when that was last asked, and this page of the list is next.
-    fn raise_extent(&mut self, page: u32, extent: u32)
+    /// Pages go as far as this now, further than when that was last asked, and what was read then goes on.
+    pub(crate) fn raise_extent(&mut self, extent: u32)
         requires further { self.old.extent < extent }
         ensures raised { self.new ≡ record self.old {
-          stage = stages.Pending page (extent - self.old.extent);
+          stage = stage_with self.old.stage (extent - self.old.extent);
           extent = extent;
         } }
         ensures within { extent < 2 ^ 32 }
     {
-        self.stage = Stage::Pending {
-            page,
-            left: extent - self.extent,
-        };
+        self.stage = self.stage.with_left(extent - self.extent);
         self.extent = extent;
     }
 
@@ -198,7 +166,7 @@ impl ScanCore {
         let _ = work;
         let extent = look_on(frames, pass, &Extent)?;
         if extent > self.extent {
-            self.raise_extent(page, extent);
+            self.raise_extent(extent);
             return Ok(());
         }
         self.begin_walk(0);
@@ -231,6 +199,14 @@ impl ScanCore {
         if left == 0 {
             return self.go_further(page, frames, pass, query, work);
         }
-        self.read_pending(frames, pass, class, query, page, left)
+        let held = hold_page(frames, pass, page)?;
+        let right = self.note_rows(class, held.page(), page);
+        frames.release(pass, held);
+        self.pages_read = one_more(self.pages_read);
+        self.stage = Stage::Pending {
+            page: right?,
+            left: left - 1,
+        };
+        Ok(())
     }
 }

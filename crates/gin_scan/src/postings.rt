@@ -1,5 +1,5 @@
 // What a scan reads of posting trees.
-ghost use Rattle.std.specs.Prelude.{◌≡◌, ◌≢◌, ◌⊎◌, ℕ, ◌<◌, length, IfOk, IfErr, IfSome, IfNone, OnOk};
+ghost use Rattle.std.specs.Prelude.{◌≡◌, ◌≢◌, ◌⊎◌, ◌<◌, length, IfOk, IfErr, IfSome, IfNone, OnOk};
 ghost use Rattle.page_types.specs.Items.{IsItemList};
 ghost use Rattle.page_types.specs.Pages.{IsPage};
 ghost use Rattle.buffer_frames.specs.declared.frame_error.FrameError.TheVariants.{BadPage, OutOfMemory};
@@ -101,45 +101,6 @@ impl ScanCore {
         Ok(along(page))
     }
 
-    /// Reads a page of a posting tree.
-    fn read_posting<D: Disk, Q, W: Meaning<Q>>(
-        &mut self,
-        frames: &mut Frames<D>,
-        pass: &mut Pass,
-        query: &Q,
-        work: &W,
-        key: usize,
-        at: usize,
-        page: u32,
-        left: u32,
-        then: u32,
-        read: u32,
-    ) -> Result<(), FrameError>
-        requires may { MayStep D.Disk (meaning W.asked W.all W.satisfies W.judged) query.now
-            frames.old pass.old self.old }
-        requires stage { self.old.stage ≡ stages.Posting key at page left then read }
-        requires some { page ≢ 0 }
-        requires more { left ≢ 0 }
-        ensures is_step { IsStepOf D.Disk (meaning W.asked W.all W.satisfies W.judged) query.now
-            frames.old pass.old self.old frames.new pass.new self.new result }
-    {
-        let _ = query;
-        let _ = work;
-        let held = hold_page(frames, pass, page)?;
-        let next = self.note_posting(held.page(), page, at);
-        frames.release(pass, held);
-        self.pages_read = one_more(self.pages_read);
-        self.stage = Stage::Posting {
-            key,
-            at,
-            page: next?,
-            left: left - 1,
-            then,
-            read,
-        };
-        Ok(())
-    }
-
     /// Goes on with a posting tree if pages go further now than when that was last asked, and else goes on after it.
     fn go_further_in_tree<D: Disk, Q, W: Meaning<Q>>(
         &mut self,
@@ -164,7 +125,7 @@ impl ScanCore {
         let _ = work;
         let extent = look_on(frames, pass, &Extent)?;
         if extent > self.extent {
-            self.raise_on_way(extent);
+            self.raise_extent(extent);
             return Ok(());
         }
         self.stage = self.next_tree(key, at + 1, then, read);
@@ -198,6 +159,18 @@ impl ScanCore {
         if left == 0 {
             return self.go_further_in_tree(frames, pass, query, work, key, at, page, then, read);
         }
-        self.read_posting(frames, pass, query, work, key, at, page, left, then, read)
+        let held = hold_page(frames, pass, page)?;
+        let next = self.note_posting(held.page(), page, at);
+        frames.release(pass, held);
+        self.pages_read = one_more(self.pages_read);
+        self.stage = Stage::Posting {
+            key,
+            at,
+            page: next?,
+            left: left - 1,
+            then,
+            read,
+        };
+        Ok(())
     }
 }

@@ -64,8 +64,13 @@ impl<'q> Scan<'q> {
     {
         let keys = query_keys(alloc, query)?;
         let work = MatchWork::new(alloc, query)?;
-        let core = ScanCore::begin::<D, TsQuery, MatchWork>(alloc, frames, pass, keys)?;
-        Ok(Scan { core, query, work })
+        match ScanCore::begin::<D, TsQuery, MatchWork>(alloc, frames, pass, keys) {
+            Ok(core) => Ok(Scan { core, query, work }),
+            Err(error) => {
+                drop(work);
+                Err(error)
+            }
+        }
     }
 
     /// Begins a scan for a query in the snapshot that the pass has in use, of so many commits. The pass
@@ -98,8 +103,13 @@ impl<'q> Scan<'q> {
     {
         let keys = query_keys(alloc, query)?;
         let work = MatchWork::new(alloc, query)?;
-        let core = ScanCore::within::<D, TsQuery, MatchWork>(alloc, frames, pass, keys, commits)?;
-        Ok(Scan { core, query, work })
+        match ScanCore::within::<D, TsQuery, MatchWork>(alloc, frames, pass, keys, commits) {
+            Ok(core) => Ok(Scan { core, query, work }),
+            Err(error) => {
+                drop(work);
+                Err(error)
+            }
+        }
     }
 
     /// Reads one page, or judges what was read; false exactly at the end. No page stays held.
@@ -163,7 +173,6 @@ impl<'q> Scan<'q> {
         ensures found { Behind D.Disk frames.new (λ (R : Log). (pin : Pin) → pin_in pass.old.pin ≡ Some pin
             → HasFound (meaning asked_of reads_all Holds judged) self.entry.query.now R pin result) }
     {
-        let _class = text_class();
         self.core.finish::<D, TsQuery, MatchWork>(frames, pass)
     }
 

@@ -1,14 +1,13 @@
 // A scan for the queries of any class.
-ghost use Rattle.std.specs.Prelude.{◌≡◌, ◌↔◌, ℕ, suc, ◌+◌, ◌<◌, ◌≤◌, [], ◌∷◌, ⊤, true, false, length, map};
+ghost use Rattle.std.specs.Prelude.{◌≡◌, ◌↔◌, ℕ, suc, ◌+◌, ◌<◌, ◌≤◌, [], ◌∷◌, ⊤, true, false, map};
 ghost use Rattle.std.specs.Prelude.{None, Some, IsTrue, IfOk, IfErr, OnOk, OnErr};
 ghost use Rattle.wal.specs.Waiting.{down_of};
-ghost use Rattle.core_state.specs.PageChoice.{IsLeast, AreBelow};
 ghost use Rattle.buffer_frames.specs.LogCauses.{HoldHasCause};
 ghost use Rattle.buffer_frames.specs.Frames.{Lies, KeepsOthers};
 ghost use Rattle.buffer_frames.specs.Passes.{IsPassOf, IsHolding, holds_after};
 ghost use Rattle.buffer_frames.specs.declared.frame_error.FrameError.TheVariants.{Down};
 ghost use Rattle.gin_opclass.specs.Class.{meaning, JudgeIsSound};
-ghost use Rattle.gin_scan.specs.Calls.{AddsNothing, LieStill, KeepsWork, ReadsOn};
+ghost use Rattle.gin_scan.specs.Calls.{AddsNothing, KeepsWork, ReadsOn};
 ghost use Rattle.gin_scan.specs.Causes.{CannotRead};
 ghost use Rattle.gin_scan.specs.Inner.Looks.{LooksOn};
 
@@ -116,13 +115,11 @@ pub(crate) fn one_more(pages_read: u64) -> u64
 }
 
 impl ScanCore {
-    ghost use Rattle.std.specs.Prelude.{List, replicate};
-    ghost use Rattle.gin_opclass.specs.Class.{Asked};
     ghost use Rattle.core_state.specs.Legal.{Pin};
     ghost use Rattle.core_state.specs.Log.{Log};
     ghost use Rattle.buffer_frames.specs.Frames.{Behind};
     ghost use Rattle.buffer_frames.specs.Passes.{HasPinned, pin_in};
-    ghost use Rattle.gin_hits.specs.Rows.{asked_by, lists_of};
+    ghost use Rattle.gin_hits.specs.Rows.{asked_by};
     ghost use Rattle.gin_scan.specs.Causes.{CannotStep, CannotBegin, IsLawfulRefusal};
     ghost use Rattle.gin_scan.specs.Counting.{IsCounted, CountsOn};
     ghost use Rattle.gin_scan.specs.Finding.{HasFound};
@@ -132,7 +129,6 @@ impl ScanCore {
     ghost use Rattle.gin_scan.specs.Scanning.{IsAtEnd, steps_left, asked_in};
     ghost use Rattle.gin_scan.specs.Inner.Begun.{IsNewScan, IsBegun};
     ghost use Rattle.gin_scan.specs.Inner.Steps.{MayStep, IsStepOf};
-    ghost use Rattle.gin_scan.specs.declared.stage.Stage.TheVariants as stages;
 
     /// A scan that has read nothing, for the keys of a query, of pages that go so far. It has no snapshot.
     fn new(
@@ -181,10 +177,10 @@ impl ScanCore {
         ensures looks { LooksOn D.Disk frames.old pass.old frames.new pass.new }
         ensures cause { IfErr result (CannotBegin frames.old) }
     {
+        let extent = look_on(frames, pass, &Extent)?;
         let order = in_order(alloc, keys.keys.as_slice())?;
         let pending = Hits::new(alloc, keys.keys.len())?;
         let main = Hits::new(alloc, keys.keys.len())?;
-        let extent = look_on(frames, pass, &Extent)?;
         Ok(ScanCore::new(alloc, keys, order, extent, pending, main))
     }
 
@@ -215,10 +211,17 @@ impl ScanCore {
         ensures cause { IfErr result (CannotBegin frames.old) }
     {
         let mut scan = ScanCore::unread(alloc, frames, pass, keys)?;
-        let snapshot = frames.pin(pass)?;
-        scan.snapshot = snapshot;
-        scan.took_pin = true;
-        Ok(scan)
+        match frames.pin(pass) {
+            Ok(snapshot) => {
+                scan.snapshot = snapshot;
+                scan.took_pin = true;
+                Ok(scan)
+            }
+            Err(error) => {
+                drop(scan);
+                Err(error)
+            }
+        }
     }
 
     /// Begins a scan for the keys of a query in the snapshot that the pass has in use, of so many

@@ -37,11 +37,10 @@ returns-in_err-work g c =
       cause = subst (CannotBegin c.args.frames.now) (sym p.2) tt;
     })
 
-pub returns-in_err-core : goal.returns-in_err-core
-returns-in_err-core g c =
-    let p = err_from_is_err_and c.from_residual-in_err-core.result c.from_residual-in_err-core.ensures.1 in
-    let e = c.in_err-core.ensures in
-    rw p.1 (record {
+pub returns-in-Err : goal.returns-in-Err
+returns-in-Err g c =
+    let e = c.in-Err.ensures in
+    record {
       scanning = tt;
       query = tt;
       walk = tt;
@@ -51,13 +50,13 @@ returns-in_err-core g c =
       counted = tt;
       reads = c.begin.ensures.reads;
       unpinned = e.unpinned;
-      cause = subst (CannotBegin c.args.frames.now) (sym p.2) e.cause;
-    })
+      cause = e.cause;
+    }
 
-pub returns : goal.returns
-returns g c =
+pub returns-in-Ok : goal.returns-in-Ok
+returns-in-Ok g c =
     let q = c.args.query.now in
-    let e = c.in_ok-core.ensures in record {
+    let e = c.in-Ok.ensures in record {
       scanning = e.scanning;
       query = record {
         query = refl;

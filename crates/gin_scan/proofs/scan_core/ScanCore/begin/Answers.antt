@@ -31,15 +31,12 @@ returns-in_err-scan g c =
       cause = subst (CannotBegin c.args.frames.now) (sym p.2) c.in_err-scan.ensures.cause;
     })
 
-pub returns-in_err-snapshot : goal.returns-in_err-snapshot
-returns-in_err-snapshot g c =
-    let r = c.from_residual-in_err-snapshot in
-    let p = err_from_is_err_and r.result r.ensures.1 in
-    let same = c.in_err-snapshot.ensures.refused in
+pub returns-in-Err : goal.returns-in-Err
+returns-in-Err g c =
+    let same = c.in-Err.ensures.refused in
     let l = c.unread.ensures.looks in
-    let d = c.in_err-snapshot.ensures.error in
-    let is : c.pin.result ≡ Err (Down d.0) = c.in_err-snapshot.was ∙ ap Err d.1 in
-    rw p.1 (record {
+    let d = c.in-Err.ensures.error in
+    let is : c.pin.result ≡ Err (Down d.0) = c.in-Err.is ∙ ap Err d.1 in record {
       scanning = tt;
       asks = tt;
       walk = tt;
@@ -52,17 +49,16 @@ returns-in_err-snapshot g c =
           (look_begins g.D.Disk c.args.frames.now c.unread.new.frames c.args.pass.now c.unread.new.pass
           c.requires.held l);
       unpinned = ap (λ (q : Pass). q.pin) same.1 ∙ l.pin ∙ c.requires.none;
-      cause = subst (CannotBegin c.args.frames.now) (sym (p.2 ∙ d.1))
-          (sym l.calm.down ∙ (c.pin.ensures.is_down d.0).0 is);
-    })
+      cause = subst (CannotBegin c.args.frames.now) (sym d.1) (sym l.calm.down ∙ (c.pin.ensures.is_down d.0).0 is);
+    }
 
-pub returns : goal.returns
-returns g c =
+pub returns-in-Ok : goal.returns-in-Ok
+returns-in-Ok g c =
     let l = c.unread.ensures.looks in
     let k = c.pin.ensures.keeps in
-    let n = c.in_ok-snapshot.snapshot in
+    let n = c.in-Ok.snapshot in
     let f = c.pin.new.self in
-    let pinned = c.in_ok-snapshot.ensures.pinned in
+    let pinned = c.in-Ok.ensures.pinned in
     let b = begun_with c.unread.new.frames f c.args.keys c.in_ok-scan.scan n true k.journal
     c.in_ok-scan.ensures.begun in
     record {

@@ -3,8 +3,10 @@ use Rattle.std.proofs.Common.{◌≡◌, ◌+◌, ◌-◌, ◌^◌, ◌<◌, ℕ
 use Rattle.std.proofs.lemmas.Result.{err_from_is_err_and}
 use Rattle.gin_opclass.specs.Class.{meaning}
 use Rattle.gin_scan.specs.Causes.{CannotFollow, HasRows, IsLawfulRefusal}
+use Rattle.gin_scan.specs.Inner.Ways.{stage_with}
 use Rattle.gin_scan.specs.Scanning.{IsScan}
 use Rattle.gin_scan.specs.declared.scan_core.ScanCore.{ScanCore}
+use Rattle.gin_scan.specs.declared.stage.Stage.{Stage}
 use Rattle.gin_scan.specs.declared.stage.Stage.TheVariants as stage
 use Rattle.gin_scan.proofs.ListCalls.{look_reads, may_still}
 use Rattle.gin_scan.proofs.ListCauses.{step_cause}
@@ -46,7 +48,8 @@ returns-then-extent-self g c =
     let n = c.in_ok-extent.extent in
     let more = n - s.extent in
     let new : ScanCore = c.raise_extent.new.self in
-    let same = c.raise_extent.ensures.raised in
+    let same = c.raise_extent.ensures.raised
+    ∙ ap (λ (z : Stage). record s { stage = stage_with z more; extent = n }) c.requires.stage in
     let less : s.extent < n = omega (arith, c.if-extent-self.true) in
     let sum : n ≡ s.extent + more = omega (arith, less) in
     let now = same ∙ ap (λ (m : ℕ). record s { stage = stage.Pending c.args.page more; extent = m }) sum in

@@ -38,8 +38,8 @@ returns-then-extent-self g c =
     let may = c.requires.may in
     let n = c.in_ok-extent.extent in
     let more = n - s.extent in
-    let new : ScanCore = c.raise_on_way.new.self in
-    let same = c.raise_on_way.ensures.raised in
+    let new : ScanCore = c.raise_extent.new.self in
+    let same = c.raise_extent.ensures.raised in
     let less : s.extent < n = omega (arith, c.if-extent-self.true) in
     let sum : n ≡ s.extent + more = omega (arith, less) in
     let now = same ∙ ap (λ (m : ℕ). record s { stage = stage_with s.stage more; extent = m }) sum in
@@ -49,7 +49,7 @@ returns-then-extent-self g c =
           (ap (λ (z : ScanCore). z.took_pin) same)
           (goes_further g.D.Disk _ c.args.query.now f c.look_on.new.frames c.args.pass.now c.look_on.new.pass s new may
           reads l.holds l.lying c.args.key c.requires.some more c.requires.stage now (omega (arith, less))
-          (subst (λ (m : ℕ). m < 2 ^ 32) sum c.raise_on_way.ensures.within)) reads l.calm;
+          (subst (λ (m : ℕ). m < 2 ^ 32) sum c.raise_extent.ensures.within)) reads l.calm;
     }
 
 pub returns : goal.returns

@@ -1,14 +1,17 @@
--- What comes after a leaf.
-use Rattle.std.proofs.Common.{◌≡◌, ℕ, length, subst, arith}
+-- What is noted of a leaf, and what comes after it.
+use Rattle.std.proofs.Common.{◌≡◌, ℕ, List, length, Some, refl, sym, subst, arith, slice_get}
 use Rattle.std.proofs.lemmas.Result.{err_from_is_err_and}
+use Rattle.core_moments.specs.Walk.{Sought}
 use Rattle.gin_scan.specs.Inner.Ways.{GoesToTree}
+use Rattle.gin_scan.specs.Scanning.{sought_for, sought_in}
+use Rattle.gin_scan.specs.declared.scan_core.ScanCore.{ScanCore}
 use Rattle.gin_scan.proofs.scan_core.ScanCore.pass_leaf.Goals as goal
 
 pub returns-in_err-then : goal.returns-in_err-then
 returns-in_err-then g c =
     let p = err_from_is_err_and c.from_residual.result c.from_residual.ensures.1 in
     rw (p.1, p.2) (record {
-      took = c.note_leaf.ensures.took;
+      took = refl;
       leaf = tt;
       noted = tt;
       next = tt;
@@ -19,19 +22,23 @@ returns-in_err-then g c =
 
 pub returns : goal.returns
 returns g c =
-    let new = c.note_leaf.new.self in
+    let s = c.args.self.now in
+    let new : ScanCore = record s { main = c.note_entries.new.main; roots = c.note_entries.new.trees } in
     let told = c.in_ok-then.ensures in
-    let from : c.len-from.result ≡ length c.args.self.now.roots.items =
-    omega (arith, c.len-from.ensures, c.args.self.now.roots.ok.0) in record {
-      took = c.note_leaf.ensures.took;
+    let there : (w : Sought) → slice_get (sought_in s) c.args.key ≡ Some w
+    → slice_get (sought_for s.keys c.as_slice.result.now) c.args.key ≡ Some w =
+    λ w here. subst (λ (order : List ℕ). slice_get (sought_for s.keys order) c.args.key ≡ Some w)
+    (sym c.as_slice.ensures.value) here in
+    let from : c.len-from.result ≡ length s.roots.items = omega (arith, c.len-from.ensures, s.roots.ok.0) in record {
+      took = refl;
       leaf = told.leaf;
-      noted = told.noted;
+      noted = λ w here. (told.noted w (there w here), told.named w (there w here));
       next = λ w here.
-          subst (λ (n : ℕ). GoesToTree new c.args.key (length c.args.self.now.roots.items) n c.args.read
-          c.next_tree.result) (told.beyond w here)
-          (subst (λ (n : ℕ). GoesToTree new c.args.key n c.in_ok-then.then c.args.read c.next_tree.result)
-          from c.next_tree.ensures.goes);
-      rest = told.rest;
-      lists = told.lists;
+          subst (λ (n : ℕ). GoesToTree new c.args.key (length s.roots.items) n c.args.read c.next_tree.result)
+          (told.beyond w (there w here))
+          (subst (λ (n : ℕ). GoesToTree new c.args.key n c.in_ok-then.then c.args.read c.next_tree.result) from
+          c.next_tree.ensures.goes);
+      rest = refl;
+      lists = c.note_entries.ensures.lists;
       bad = tt;
     }

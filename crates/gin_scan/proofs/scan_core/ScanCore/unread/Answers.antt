@@ -5,16 +5,27 @@ use Rattle.gin_hits.specs.Rows.{asked_by}
 use Rattle.gin_hits.specs.Ordered.{AreOrdered, asked_at}
 use Rattle.gin_scan.specs.Causes.{CannotBegin}
 use Rattle.gin_scan.proofs.BegunScans.{is_begun}
-use Rattle.gin_scan.proofs.ListCalls.{still_looks}
 use Rattle.gin_scan.proofs.scan_core.ScanCore.unread.Goals as goal
 
-pub returns-in_err-order : goal.returns-in_err-order
-returns-in_err-order g c =
-    let p = err_from_is_err_and c.from_residual.result c.from_residual.ensures.1 in
+pub returns-in_err-extent : goal.returns-in_err-extent
+returns-in_err-extent g c =
+    let r = c.from_residual in
+    let p = err_from_is_err_and r.result r.ensures.1 in
+    let d = c.in_err-extent.ensures.error in
     rw p.1 (record {
       begun = tt;
       took = tt;
-      looks = still_looks g.D.Disk c.args.frames.now c.args.pass.now c.requires.pass;
+      looks = c.look_on.ensures.looks;
+      cause = subst (CannotBegin c.args.frames.now) (sym (p.2 ∙ d.1)) d.2;
+    })
+
+pub returns-in_err-order : goal.returns-in_err-order
+returns-in_err-order g c =
+    let p = err_from_is_err_and c.from_residual-in_err-order.result c.from_residual-in_err-order.ensures.1 in
+    rw p.1 (record {
+      begun = tt;
+      took = tt;
+      looks = c.look_on.ensures.looks;
       cause = subst (CannotBegin c.args.frames.now) (sym p.2) tt;
     })
 
@@ -24,7 +35,7 @@ returns-in_err-pending g c =
     rw p.1 (record {
       begun = tt;
       took = tt;
-      looks = still_looks g.D.Disk c.args.frames.now c.args.pass.now c.requires.pass;
+      looks = c.look_on.ensures.looks;
       cause = subst (CannotBegin c.args.frames.now) (sym p.2) tt;
     })
 
@@ -34,20 +45,8 @@ returns-in_err-main g c =
     rw p.1 (record {
       begun = tt;
       took = tt;
-      looks = still_looks g.D.Disk c.args.frames.now c.args.pass.now c.requires.pass;
-      cause = subst (CannotBegin c.args.frames.now) (sym p.2) tt;
-    })
-
-pub returns-in_err-extent : goal.returns-in_err-extent
-returns-in_err-extent g c =
-    let r = c.from_residual-in_err-extent in
-    let p = err_from_is_err_and r.result r.ensures.1 in
-    let d = c.in_err-extent.ensures.error in
-    rw p.1 (record {
-      begun = tt;
-      took = tt;
       looks = c.look_on.ensures.looks;
-      cause = subst (CannotBegin c.args.frames.now) (sym (p.2 ∙ d.1)) d.2;
+      cause = subst (CannotBegin c.args.frames.now) (sym p.2) tt;
     })
 
 pub returns : goal.returns
