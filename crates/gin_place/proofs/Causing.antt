@@ -1,6 +1,6 @@
 -- Why calls are refused.
 use Rattle.std.proofs.Common.{◌≡◌, ◌↔◌, ◌≤◌, ℕ, List, [], ◌++◌, length, refl, sym, ap, subst, ◌∙◌, arith}
-use Rattle.std.proofs.Common.{Result, Err}
+use Rattle.std.proofs.Common.{Result, Ok, Err}
 use Rattle.std.specs.Prelude.{Option, Some, None, IfErr, ⊤}
 use Rattle.disk_trait.specs.declared.device.Disk.{Ghosts as Disk}
 use Rattle.wal.specs.Waiting.{limit_of, length_with, down_of}
@@ -38,6 +38,16 @@ use Rattle.gin_place.proofs.Faults.{fine_still, fine_then}
 pub at_exit : {T E : Type 0} (P : E → Type 0) (r : Result T E) (y e : E) → r ≡ Err y → y ≡ e → P e → IfErr r P
 at_exit P r y e is same p =
     subst (λ (x : Result _ _). IfErr x P) (sym (is ∙ ap Err same)) p
+
+-- answers that differ
+pub ok_not_err : {T E : Type 0} (x : T) (e : E) → ◌≡◌ {A = Result T E} (Ok x) (Err e) → ⊥
+ok_not_err x e is = cc
+
+pub bad_not_full : {T : Type 0} (n : ℕ) → ◌≡◌ {A = Result T PlaceError} (Err (BadPage n)) (Err StoreFull) → ⊥
+bad_not_full n is = cc
+
+pub down_not_full : (n : ℕ) → Down n ≡ StoreFull → ⊥
+down_not_full n is = cc
 
 up : (a b c : ℕ) → a ≤ b → b ≤ c → a ≤ c
 up a b c x y = omega (arith, x, y)

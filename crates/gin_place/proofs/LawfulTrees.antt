@@ -107,7 +107,8 @@ module _ (n L : ℕ) (R : Log) (P : Pages) (g : Ghost) (v : Inv n L R P g) (show
       (ext_top key_order) 1 1 first.0 place low high in
       sym (shown_right (P 1).right (P 1).body is)
       ∙ wide_right keys greatest (entry_nodes P) (entry_ghost g) v.entries least tt 1 1 first.0 low high only
-      (right_in (entry_nodes P 1)) (right_here keys greatest (entry_nodes P) (entry_ghost g) v.entries 1 1 first.0 place)
+      (right_in (entry_nodes P 1))
+      (right_here keys greatest (entry_nodes P) (entry_ghost g) v.entries 1 1 first.0 place)
 
   spans : (h q : ℕ) → entry_place (g.place q) ≡ tree 1 h → keys.less (g.low_key q) (g.high_key q)
   spans h q e = v.entries.span q 1 h e
@@ -134,7 +135,8 @@ module _ (n L : ℕ) (R : Log) (P : Pages) (g : Ghost) (v : Inv n L R P g) (show
             (map entry_child front ++ entry_child c ∷ map entry_child back) place
             (node ∙ ap (inner (P p).right) (map-append entry_child front (c ∷ back)));
         each = λ b i. child_here keys greatest (entry_nodes P) (entry_ghost g) v.entries p 1 at_p.0 (P p).right
-            (map entry_child (front ++ c ∷ back)) (entry_child b) place node (in_map entry_child b (front ++ c ∷ back) i);
+            (map entry_child (front ++ c ∷ back)) (entry_child b) place node
+            (in_map entry_child b (front ++ c ∷ back) i);
       }
 
   -- the greatest key of the first part of a page in two parts is between the page's bounds
@@ -146,8 +148,8 @@ module _ (n L : ℕ) (R : Log) (P : Pages) (g : Ghost) (v : Inv n L R P g) (show
       let es = front ++ last ∷ next ∷ back in
       let here = leaf_keys P (entry_ghost g) v.entries places p high es is last (in_middle front last (next ∷ back)) in
       let there = leaf_keys P (entry_ghost g) v.entries places p high es is next (in_next front) in
-      let less : KeyLess last.key next.key = later (λ (d e : Entry). KeyLess d.key e.key) front last next back on.1.rising
-      in
+      let less : KeyLess last.key next.key =
+      later (λ (d e : Entry). KeyLess d.key e.key) front last next back on.1.rising in
       record {
         some = key_some last.key (all_at IsEntry front last (next ∷ back) on.1.each).key;
         above = here.0;
@@ -166,13 +168,13 @@ module _ (n L : ℕ) (R : Log) (P : Pages) (g : Ghost) (v : Inv n L R P g) (show
       let cs = map entry_child front ++ entry_child last ∷ map entry_child (next ∷ back) in
       let first = map entry_child front in
       let here = k.each last (in_middle front last (next ∷ back)) in
-      let place = kid_place keys greatest (entry_ghost g) 1 k.height (g.low_key p) (g.high_key p) cs (spans k.height) k.kids
-      (entry_child last) (in_middle first (entry_child last) (map entry_child (next ∷ back))) in
+      let place = kid_place keys greatest (entry_ghost g) 1 k.height (g.low_key p) (g.high_key p) cs (spans k.height)
+      k.kids (entry_child last) (in_middle first (entry_child last) (map entry_child (next ∷ back))) in
       let low : keys.less (g.low_key p) (bound last.bound) =
       subst (keys.less (g.low_key p)) here.1 (at_most_less keys greatest (g.low_key p) (g.low_key last.page)
       (g.high_key last.page) place.1 (spans k.height last.page here.0)) in
-      let rest = kids_back keys greatest (entry_ghost g) 1 k.height (g.low_key p) (g.high_key p) first (entry_child last)
-      (map entry_child (next ∷ back)) k.kids in
+      let rest = kids_back keys greatest (entry_ghost g) 1 k.height (g.low_key p) (g.high_key p) first
+      (entry_child last) (map entry_child (next ∷ back)) k.kids in
       let high : keys.less (bound last.bound) (g.high_key p) = kids_span keys greatest (entry_ghost g) 1 k.height
       (bound last.bound) (g.high_key p) (map entry_child (next ∷ back)) (spans k.height) (λ e. cc) rest in
       let key = bound_key last.bound (g.high_key p) high in
@@ -211,8 +213,8 @@ module _ (n L : ℕ) (R : Log) (P : Pages) (g : Ghost) (v : Inv n L R P g) (show
       let rest = kids_back keys greatest (entry_ghost g) 1 k.height (g.low_key p) (g.high_key p) first (entry_child c)
       last k.kids in
       let after : (b : EntryChild) → In b back → AtMost keys greatest (bound c.bound) (g.low_key b.page) =
-      λ b i. (kid_place keys greatest (entry_ghost g) 1 k.height (bound c.bound) (g.high_key p) last (spans k.height) rest
-      (entry_child b) (in_map entry_child b back i)).1 in
+      λ b i. (kid_place keys greatest (entry_ghost g) 1 k.height (bound c.bound) (g.high_key p) last (spans k.height)
+      rest (entry_child b) (in_map entry_child b back i)).1 in
       record {
         front = front;
         back = back;

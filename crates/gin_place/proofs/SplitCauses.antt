@@ -1,5 +1,5 @@
--- Why a page is not split, of the store as it was.
-use Rattle.std.proofs.Common.{◌≡◌, ◌≢◌, ⊎_elim, ℕ, [], ◌∷◌, sym, subst, inl, inr}
+-- Why a root does not grow, or a page is not split, of the store as it was.
+use Rattle.std.proofs.Common.{◌≡◌, ◌≢◌, ⊎_elim, ℕ, [], ◌∷◌, refl, sym, subst, inl, inr}
 use Rattle.disk_trait.specs.declared.device.Disk.{Ghosts as Disk}
 use Rattle.page_types.specs.Pages.{IsPage}
 use Rattle.page_types.specs.declared.page.Page.{Page}
@@ -13,7 +13,7 @@ use Rattle.buffer_frames.specs.Passes.{IsPassOf}
 use Rattle.buffer_frames.specs.declared.home.Home.{Home}
 use Rattle.buffer_frames.specs.declared.pass.Pass.{Pass}
 use Rattle.gin_place.specs.Adopting.{CanTake, CanTakeItem}
-use Rattle.gin_place.specs.Causes.{Finds, CannotUse, CannotAdopt, IsBadRoom, IsWhy}
+use Rattle.gin_place.specs.Causes.{Finds, CannotUse, CanGrow, CannotAdopt, IsBadRoom, IsWhy}
 use Rattle.gin_place.specs.Faults.{MetNoFault, FaultBy}
 use Rattle.gin_place.specs.Inner.Dividing.{AreSplit, Takes, WhyNotTaken, WhyNotDivided, WhyNoSplit}
 use Rattle.gin_place.specs.Trees.{root_of}
@@ -89,7 +89,25 @@ pub is_bad : (Is : Page → Type 0) (held : Sheet) (c : Page) → c ≡ held.con
 is_bad Is held c same is_page off e is =
     inr (is, subst IsPage same is_page, subst (λ (x : Page). Is x → ⊥) same off)
 
+-- the root does not grow
+pub grow_why : {D : Type 0} (device : Disk D) (f : FramesValue D) (p : Pass) (l : FramesValue D) (t : Sought)
+    (parent : ℕ) (root : Sheet) → IsPassOf f p → root.page ≡ root_of t → Lies f root.page root.content
+    → (e : PlaceError) → WhyNotTaken (CanGrow t) root e
+    → Finds device f p (IsWhy device (IsBadRoom t parent (root_of t)) l e)
+grow_why device f p l t parent root of at lies e (inl none) =
+    subst (λ (x : PlaceError). Finds device f p (IsWhy device (IsBadRoom t parent (root_of t)) l x)) (sym none)
+    (finds_now device f p (IsWhy device (IsBadRoom t parent (root_of t)) l OutOfMemory) of tt)
+grow_why device f p l t parent root of at lies e (inr bad) =
+    subst (λ (x : PlaceError). Finds device f p (IsWhy device (IsBadRoom t parent (root_of t)) l x)) (sym bad.0)
+    (finds_now device f p (IsWhy device (IsBadRoom t parent (root_of t)) l (BadPage root.page)) of
+    (IsBadRoom.root refl at (CannotUse.other root.content bad.1 lies bad.2)))
+
 -- and no fault is met then
+pub taken_fault : {D : Type 0} (device : Disk D) (f g : FramesValue D) (Is : Page → Type 0) (held : Sheet)
+    (e : PlaceError) → MetNoFault device f g → WhyNotTaken Is held e → FaultBy device f g e
+taken_fault device f g Is held e fine (inl none) = subst (FaultBy device f g) (sym none) fine
+taken_fault device f g Is held e fine (inr bad) = subst (FaultBy device f g) (sym bad.0) fine
+
 pub split_fault : {D : Type 0} (device : Disk D) (f g : FramesValue D) (t : Sought) (old above : Sheet)
     (e : PlaceError) → MetNoFault device f g → WhyNoSplit t old above e → FaultBy device f g e
 split_fault device f g t old above e fine (inl none) = subst (FaultBy device f g) (sym none) fine

@@ -4,7 +4,7 @@ use core_state::State;
 use page_space::take;
 
 /// How far pages go.
-#[derive(Clone, Copy)]
+#[derive(Drop)]
 pub(crate) struct Extent;
 
 impl Ask<u32> for Extent {
@@ -18,7 +18,7 @@ impl Ask<u32> for Extent {
 }
 
 /// The page that is taken next as a new one.
-#[derive(Clone, Copy)]
+#[derive(Drop)]
 pub(crate) struct NewPage;
 
 impl Ask<Option<u32>> for NewPage {

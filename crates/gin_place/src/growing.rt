@@ -12,11 +12,12 @@ ghost use Rattle.gin_place.specs.Going.{WorksOn};
 ghost use Rattle.gin_place.specs.Causes.{CanGrow, HadPage};
 ghost use Rattle.gin_place.specs.Faults.{MetNoFault, FaultBy};
 ghost use Rattle.gin_place.specs.Holding.{ReadsOn};
+ghost use Rattle.gin_place.specs.Inner.Dividing.{WhyNotTaken};
 ghost use Rattle.gin_place.specs.Inner.Making.{WhyNoRoom};
 ghost use Rattle.gin_place.specs.Inner.Logging.{IsGrowStep};
 
 use crate::error::PlaceError;
-use crate::holding::{hold_new, hold_page};
+use crate::holding::{bad_page, hold_new, hold_page};
 use crate::logging::{log_two, release, two_step};
 use crate::sought::{Sought, is_tree_page};
 use buffer_frames::{Frames, Held, Pass, Step};
@@ -61,15 +62,19 @@ fn grown(alloc: Global, sought: Sought, root: &Page, new: u32) -> Result<(Page, 
     }
 }
 
-/// The step by which the root of a tree grows over a new page.
-fn grow_step(alloc: Global, sought: Sought, root: &Held, new: &Held) -> Result<Step, AllocError>
-    requires body { IsTreeBody sought root.now.content.body }
-    requires link { root.now.content.right ≡ 0 }
+/// The step by which the root of a tree grows over a new page, where it may.
+fn grow_step(alloc: Global, sought: Sought, root: &Held, new: &Held) -> Result<Step, PlaceError>
     ensures step { IfOk result (IsGrowStep sought root.now new.now) }
+    ensures can { OnOk result (CanGrow sought root.now.content) }
     ensures low { OnOk result ((root.now.page < page_limit) × (new.now.page < page_limit)) }
+    ensures cause { IfErr result (WhyNotTaken (CanGrow sought) root.now) }
 {
-    let (inner, moved) = grown(alloc, sought, root.page(), new.number())?;
-    two_step(alloc, Kind::GrowRoot, (root, inner), (new, moved))
+    let page = root.page();
+    if !can_grow(sought, page) {
+        return Err(bad_page(root));
+    }
+    let (inner, moved) = grown(alloc, sought, page, new.number())?;
+    Ok(two_step(alloc, Kind::GrowRoot, (root, inner), (new, moved))?)
 }
 
 /// The root of the tree where something is sought grows: its content moves to a new page, which becomes
@@ -98,12 +103,7 @@ pub(crate) fn grow_root<D: Disk>(
     posting_tree::pages_may_be_logged();
     tree_pages_serve();
     tree_steps_hold();
-    let page = sought.root();
-    let root = hold_page(frames, pass, page)?;
-    if !can_grow(sought, root.page()) {
-        release(frames, pass, root);
-        return Err(PlaceError::BadPage { page });
-    }
+    let root = hold_page(frames, pass, sought.root())?;
     let new = match hold_new(frames, pass) {
         Ok(new) => new,
         Err(error) => {
@@ -113,10 +113,10 @@ pub(crate) fn grow_root<D: Disk>(
     };
     match grow_step(alloc, sought, &root, &new) {
         Ok(step) => log_two(alloc, frames, pass, root, new, step),
-        Err(_) => {
+        Err(error) => {
             release(frames, pass, new);
             release(frames, pass, root);
-            Err(PlaceError::OutOfMemory)
+            Err(error)
         }
     }
 }

@@ -1,26 +1,26 @@
 // Pages that are held: those on the way, and new ones.
 ghost use Rattle.std.specs.Prelude.{◌≡◌, ◌≢◌, ℕ, ◌<◌, List, [], ◌∷◌, IfOk, IfErr, OnOk};
-ghost use Rattle.std.specs.Prelude.{OnErr, IfSome, IfNone, IsErrOf, ⊤};
+ghost use Rattle.std.specs.Prelude.{OnErr, IfSome, IfNone, IsErrOf, Some, ⊤};
 ghost use Rattle.wal.specs.Waiting.{down_of};
 ghost use Rattle.core_state.specs.Allowed.{Sheet as SheetValue};
 ghost use Rattle.core_state.specs.PageChoice.{IsLeast, AreBelow};
 ghost use Rattle.core_state.specs.States.{StateTells};
 ghost use Rattle.buffer_frames.specs.Frames.{Lies, KeepsOthers};
+ghost use Rattle.buffer_frames.specs.LogCauses.{IsCalm};
 ghost use Rattle.buffer_frames.specs.Passes.{IsPassOf, IsHolding, Seen};
 ghost use Rattle.page_space.specs.Taking.{IsTaken, HasNoPage};
 ghost use Rattle.gin_place.specs.Placing.{HasRight};
-ghost use Rattle.gin_place.specs.Causes.{Finds, CannotUse, IsBadNew, IsWhy, CannotHold};
+ghost use Rattle.gin_place.specs.Causes.{Finds, CannotUse, HasLatestSince, IsBadNew, IsWhy, CannotHold};
 ghost use Rattle.gin_place.specs.Faults.{MetNoFault, FaultBy};
 ghost use Rattle.gin_place.specs.Holding.{ReadsOn, HoldsNoMore, HoldsMore, IsNewHeld};
-ghost use Rattle.gin_place.specs.declared.error.PlaceError.TheVariants.{StoreFull, BadPage};
+ghost use Rattle.gin_place.specs.declared.error.PlaceError.TheVariants.{StoreFull, Down, BadPage};
 
 use crate::asks::{Extent, NewPage};
 use crate::error::PlaceError;
 use crate::logging::release;
-use buffer_frames::{Frames, Held, Pass};
+use buffer_frames::{Ask, Frames, Held, Pass};
 use core_maintenance::found_stays;
 use disk_trait::Disk;
-use page_space::taken_is_new;
 use page_types::PAGE_LIMIT;
 
 /// The refusal of a page that is held.
@@ -61,6 +61,29 @@ pub fn hold_page<D: Disk>(
     Ok(frames.hold(pass, page)?)
 }
 
+/// Asks of the log, all of which the pass has then seen. The refusal: a journal that is down.
+pub fn ask<D: Disk, T, A: Ask<T>>(
+    frames: &mut Frames<D>,
+    pass: &mut Pass,
+    question: &A,
+) -> Result<T, PlaceError>
+    requires pass { IsPassOf frames.old pass.old }
+    requires right { HasRight pass.old }
+    ensures reads { ReadsOn D.Disk frames.old pass.old frames.new pass.new }
+    ensures no_more { HoldsNoMore D.Disk frames.old pass.old frames.new pass.new }
+    ensures answers { IfOk result (λ t.
+        A.answers question.now frames.new.journal.state pass.new.floor pass.new.since t) }
+    ensures all { OnOk result (pass.new.seen ≡ frames.new.journal.state.records) }
+    ensures told { OnOk result (Seen D.Disk frames.new pass.new
+        (λ S P. StateTells S frames.new.journal.state)) }
+    ensures since { OnOk result (HasLatestSince frames.new pass.new) }
+    ensures calm { IsCalm D.Disk frames.old.journal frames.new.journal }
+    ensures down { IfErr result (λ e. (n : ℕ) × (e ≡ Down n) × (down_of frames.old.journal.wal ≡ Some n)) }
+{
+    found_stays();
+    Ok(frames.look(pass, question)?)
+}
+
 /// Holds a page of the way, alone; the pass has then seen all of the log. With it comes how far pages go.
 pub fn hold_seen<D: Disk>(
     frames: &mut Frames<D>,
@@ -90,13 +113,12 @@ pub fn hold_seen<D: Disk>(
     ensures bad { (n : ℕ) → IsErrOf result (BadPage n)
         → (n ≡ page) × CannotUse frames.old (λ c. ⊤) n }
 {
-    found_stays();
     let held = hold_page(frames, pass, page)?;
-    match frames.look(pass, &Extent) {
+    match ask(frames, pass, &Extent) {
         Ok(extent) => Ok((held, extent)),
         Err(error) => {
             release(frames, pass, held);
-            Err(PlaceError::from(error))
+            Err(error)
         }
     }
 }
@@ -126,16 +148,14 @@ fn take_page<D: Disk>(frames: &mut Frames<D>, pass: &mut Pass) -> Result<Option<
     ensures fine { OnOk result (MetNoFault D.Disk frames.old frames.new) }
     ensures fault { IfErr result (λ e. FaultBy D.Disk frames.old frames.new e) }
 {
-    found_stays();
-    taken_is_new();
-    let Some(page) = frames.look(pass, &NewPage)? else {
+    let Some(page) = ask(frames, pass, &NewPage)? else {
         return Err(PlaceError::StoreFull);
     };
     if page == 0 {
         return Err(PlaceError::BadPage { page });
     }
     let held = hold_page(frames, pass, page)?;
-    match frames.look(pass, &NewPage) {
+    match ask(frames, pass, &NewPage) {
         Ok(Some(again)) if again == page => Ok(Some(held)),
         Ok(_) => {
             release(frames, pass, held);
@@ -143,7 +163,7 @@ fn take_page<D: Disk>(frames: &mut Frames<D>, pass: &mut Pass) -> Result<Option<
         }
         Err(error) => {
             release(frames, pass, held);
-            Err(PlaceError::from(error))
+            Err(error)
         }
     }
 }

@@ -24,6 +24,6 @@ mod sought;
 mod splitting;
 
 pub use error::PlaceError;
-pub use holding::{hold_new, hold_page, hold_seen};
+pub use holding::{ask, hold_new, hold_page, hold_seen};
 pub use logging::{log_two, one_step, release, two_step};
 pub use placing::{Placing, place};

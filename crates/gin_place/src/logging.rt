@@ -147,11 +147,11 @@ pub(crate) fn log_one<D: Disk>(
     ensures fine { OnOk result (MetNoFault D.Disk frames.old frames.new) }
     ensures fault { IfErr result (λ e. FaultBy D.Disk frames.old frames.new e) }
 {
-    let mut pages = Vec::new(alloc);
-    if pages.reserve(1).is_err() {
+    let Ok(mut pages) = Vec::with_capacity(alloc, 1) else {
         release(frames, pass, page);
+        drop(step);
         return Err(PlaceError::OutOfMemory);
-    }
+    };
     pages.push_reserved(page);
     log_pages(frames, pass, pages, step)
 }
@@ -174,12 +174,12 @@ pub fn log_two<D: Disk>(
     ensures fine { OnOk result (MetNoFault D.Disk frames.old frames.new) }
     ensures fault { IfErr result (λ e. FaultBy D.Disk frames.old frames.new e) }
 {
-    let mut pages = Vec::new(alloc);
-    if pages.reserve(2).is_err() {
+    let Ok(mut pages) = Vec::with_capacity(alloc, 2) else {
         release(frames, pass, second);
         release(frames, pass, first);
+        drop(step);
         return Err(PlaceError::OutOfMemory);
-    }
+    };
     pages.push_reserved(second);
     pages.push_reserved(first);
     log_pages(frames, pass, pages, step)
@@ -229,11 +229,11 @@ pub(crate) fn log_three<D: Disk>(
     ensures fine { OnOk result (MetNoFault D.Disk frames.old frames.new) }
     ensures fault { IfErr result (λ e. FaultBy D.Disk frames.old frames.new e) }
 {
-    let mut pages = Vec::new(alloc);
-    if pages.reserve(3).is_err() {
+    let Ok(mut pages) = Vec::with_capacity(alloc, 3) else {
         give_back(frames, pass, three);
+        drop(step);
         return Err(PlaceError::OutOfMemory);
-    }
+    };
     let Three { new, page, parent } = three;
     pages.push_reserved(new);
     pages.push_reserved(page);

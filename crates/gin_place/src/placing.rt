@@ -1,15 +1,12 @@
 // Items are put under a key, step by step.
-ghost use Rattle.std.specs.Prelude.{◌≡◌, ◌↔◌, ℕ, ◌+◌, ◌<◌, ◌≤◌, List, [], ◌∷◌, length, take, drop, IsTrue, false};
+ghost use Rattle.std.specs.Prelude.{◌≡◌, ℕ, ◌+◌, ◌<◌, ◌≤◌, List, [], ◌∷◌, length, take, drop, IsTrue, false};
 ghost use Rattle.std.specs.Prelude.{IfOk, IfErr, OnOk, OnErr};
-ghost use Rattle.std.specs.List.{AllByRecursion};
 ghost use Rattle.page_types.specs.Items.{AreItems};
 ghost use Rattle.page_types.specs.Keys.{IsKey};
 ghost use Rattle.page_types.specs.Pages.{IsPage};
-ghost use Rattle.page_types.specs.declared.page.Page.{Page as PageValue};
 ghost use Rattle.wal.specs.Waiting.{down_of};
 ghost use Rattle.buffer_frames.specs.Frames.{Lies, Behind};
 ghost use Rattle.buffer_frames.specs.Passes.{IsPassOf, IsHolding, Seen};
-ghost use Rattle.gin_place.specs.Trees.{root_of, tree_of};
 ghost use Rattle.gin_place.specs.Placing.{HasRight, IsRootOf, IsLeft, IsNext, ArePending, ArePlaced, IsOnWay};
 ghost use Rattle.gin_place.specs.Placing.{IsPlacing, at_root};
 ghost use Rattle.gin_place.specs.Going.{WorksOn};
@@ -267,8 +264,8 @@ impl Placing {
         requires read { HoldsAt D.Disk frames.old pass.old key.now items.now self.old sought parent page held }
         requires full { IsReadingIn sought held.content key.now (drop self.old.from items.now) readings.Full }
         requires leaf { self.old.making_room ≡ false → IsFullLeafIn sought held.content readings.Full }
-        ensures { HasStepped D.Disk frames.old pass.old frames.new pass.new key.now items.now
-            self.old self.new result }
+        ensures { HoldsAt D.Disk frames.old pass.old key.now items.now self.old sought parent page held
+            → HasStepped D.Disk frames.old pass.old frames.new pass.new key.now items.now self.old self.new result }
     {
         found_stays();
         bullets_hold();

@@ -1,6 +1,6 @@
 // The parts of a page of a posting tree that is split, and its parent with the new page.
 ghost use Rattle.std.specs.Prelude.{◌≡◌, ◌≢◌, ◌↔◌, ◌<◌, List, [], ◌∷◌, ◌++◌, length, IfOk, IfErr};
-ghost use Rattle.std.specs.Prelude.{IfSome, IfNone, IsTrue, OnOk};
+ghost use Rattle.std.specs.Prelude.{IfSome, IfNone, IsTrue};
 ghost use Rattle.page_types.specs.Items.{items_of, IsItemList};
 ghost use Rattle.page_types.specs.Encoding.{count_of};
 ghost use Rattle.page_types.specs.Numbers.{page_limit, item_limit};

@@ -1,5 +1,5 @@
 // What a page says of items that are to come under a key.
-ghost use Rattle.std.specs.Prelude.{◌≡◌, ◌↔◌, ℕ, ◌≤◌, length, Some, None, IfOk, IfSome, IfNone, IsTrue, false};
+ghost use Rattle.std.specs.Prelude.{◌≡◌, ℕ, ◌≤◌, length, Some, None, IfOk, IfSome, IfNone, IsTrue, false};
 ghost use Rattle.std.specs.List.{slice_get};
 ghost use Rattle.page_types.specs.Parts.{entry_shown};
 ghost use Rattle.page_types.specs.Views.{entries_in};
@@ -21,7 +21,7 @@ use posting_code::{fitting, lacks};
 use std::alloc::{AllocError, Global};
 
 /// What a page says of items that are to come under a key, where nothing is to be logged.
-#[derive(Clone, Copy)]
+#[derive(Drop)]
 pub(crate) enum Next {
     /// The way goes on to this child.
     Down(u32),

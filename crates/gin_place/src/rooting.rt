@@ -1,5 +1,5 @@
 // A key's list becomes a posting tree.
-ghost use Rattle.std.specs.Prelude.{◌≡◌, ◌≢◌, ℕ, ◌<◌, List, [], ◌∷◌, Some, IfOk, IfErr, IfSome, IfNone, OnOk, OnErr};
+ghost use Rattle.std.specs.Prelude.{◌≡◌, ℕ, ◌<◌, List, [], ◌∷◌, Some, IfOk, IfErr, IfSome, IfNone, OnOk, OnErr};
 ghost use Rattle.std.specs.List.{slice_get};
 ghost use Rattle.page_types.specs.Numbers.{page_limit};
 ghost use Rattle.page_types.specs.Views.{entries_in};
@@ -16,9 +16,9 @@ ghost use Rattle.gin_place.specs.declared.sought.Sought.TheVariants as soughts;
 
 use crate::error::PlaceError;
 use crate::holding::hold_new;
-use crate::logging::{log_two, one_step, release};
-use buffer_frames::{Frames, Held, Pass, Sheet, Step};
-use core_maintenance::{tree_names_hold, tree_pages_serve, tree_steps_hold};
+use crate::logging::{log_two, release, two_step};
+use buffer_frames::{Frames, Held, Pass, Step};
+use core_maintenance::{tree_pages_serve, tree_steps_hold};
 use disk_trait::Disk;
 use entry_tree::root_at;
 use page_types::{Body, Kind, Page, PostingsRef};
@@ -48,17 +48,20 @@ fn tree_step(alloc: Global, held: &Held, place: usize, new: &Held) -> Result<Ste
     ensures step { IfOk result (IsTreeStep place held.now new.now) }
     ensures low { OnOk result ((held.now.page < page_limit) × (new.now.page < page_limit)) }
 {
-    let Some(list) = list_at(held.page(), place) else {
+    let page = held.page();
+    let Some(list) = list_at(page, place) else {
         unreachable!()
     };
-    let root = new.number();
-    let Some(named) = root_at(held.page(), place, root)? else {
+    let Some(named) = root_at(page, place, new.number())? else {
         unreachable!()
     };
-    let mut step = one_step(alloc, Kind::MakeTree, (held, named))?;
-    let tree = leaf(alloc, list)?;
-    step.leave(Sheet::new(root, tree))?;
-    Ok(step)
+    match leaf(alloc, list) {
+        Ok(tree) => two_step(alloc, Kind::MakeTree, (held, named), (new, tree)),
+        Err(error) => {
+            drop(named);
+            Err(error)
+        }
+    }
 }
 
 /// A key's list becomes a posting tree; the page that is held, with the key's entry, is given back. The
@@ -89,7 +92,6 @@ pub(crate) fn make_tree<D: Disk>(
     pages_may_be_logged();
     tree_pages_serve();
     tree_steps_hold();
-    tree_names_hold();
     let new = match hold_new(frames, pass) {
         Ok(new) => new,
         Err(error) => {

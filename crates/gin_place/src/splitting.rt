@@ -15,14 +15,13 @@ ghost use Rattle.gin_place.specs.Trees.{root_of};
 ghost use Rattle.gin_place.specs.Placing.{HasRight};
 ghost use Rattle.gin_place.specs.Going.{WorksOn};
 ghost use Rattle.gin_place.specs.Adopting.{Divides, CanTake};
-ghost use Rattle.gin_place.specs.Causes.{CanDivide, HadPage};
+ghost use Rattle.gin_place.specs.Causes.{HadPage};
 ghost use Rattle.gin_place.specs.Faults.{MetNoFault, FaultBy};
 ghost use Rattle.gin_place.specs.Holding.{ReadsOn, IsNewHeld};
 ghost use Rattle.gin_place.specs.Inner.Making.{WhyNoRoom};
-ghost use Rattle.gin_place.specs.Inner.Logging.{Adopts, AreSplitIn, IsSplitStep};
+ghost use Rattle.gin_place.specs.Inner.Logging.{Adopts, IsSplitStep};
 ghost use Rattle.gin_place.specs.Inner.Dividing.{AreSplit, EndsWithin, Takes, Passed, Bars, WhyNotDivided, WhyNotTaken};
 ghost use Rattle.gin_place.specs.Inner.Dividing.{WhyNoSplit};
-ghost use Rattle.gin_place.specs.declared.error.PlaceError.TheVariants.{OutOfMemory};
 ghost use Rattle.gin_place.specs.declared.sought.Sought.{Sought as SoughtValue};
 ghost use Rattle.gin_place.specs.declared.sought.Sought.TheVariants as soughts;
 
@@ -243,30 +242,8 @@ fn tree_adopting<Q, W: Meaning<Q>, C: CompareKeys, J: Judge<Q, W>>(
     }
 }
 
-/// The two parts of the page that is held, and its parent with the new page.
-fn tree_parts<Q, W: Meaning<Q>, C: CompareKeys, J: Judge<Q, W>>(
-    alloc: Global,
-    class: &OpClass<Q, W, C, J>,
-    key: &[u8],
-    sought: Sought,
-    three: &Three,
-) -> Result<(Page, Page, Page), PlaceError>
-    requires { three.now.new.page ≢ 0 }
-    ensures parts { IfOk result (λ r. AreSplitIn sought three.now.page three.now.new three.now.parent r.0 r.1 r.2) }
-    ensures cause { IfErr result (WhyNoSplit sought three.now.page three.now.parent) }
-{
-    let (left, right) = tree_halves(alloc, class, key, sought, three)?;
-    match tree_adopting(class, sought, &left, three) {
-        Ok(adopted) => Ok((left, right, adopted)),
-        Err(error) => {
-            drop(left);
-            drop(right);
-            Err(error)
-        }
-    }
-}
-
-/// The step by which a page of the tree where something is sought is split.
+/// The step by which a page of the tree where something is sought is split: its two parts, and its parent with
+/// the new page.
 fn split_step<Q, W: Meaning<Q>, C: CompareKeys, J: Judge<Q, W>>(
     alloc: Global,
     class: &OpClass<Q, W, C, J>,
@@ -280,15 +257,21 @@ fn split_step<Q, W: Meaning<Q>, C: CompareKeys, J: Judge<Q, W>>(
         × (three.now.parent.page < page_limit)) }
     ensures cause { IfErr result (WhyNoSplit sought three.now.page three.now.parent) }
 {
-    let (left, right, adopted) = tree_parts(alloc, class, key, sought, three)?;
-    let step = three_step(
-        alloc,
-        Kind::Split,
-        (&three.page, left),
-        (&three.new, right),
-        (&three.parent, adopted),
-    )?;
-    Ok(step)
+    let (left, right) = tree_halves(alloc, class, key, sought, three)?;
+    match tree_adopting(class, sought, &left, three) {
+        Ok(adopted) => Ok(three_step(
+            alloc,
+            Kind::Split,
+            (&three.page, left),
+            (&three.new, right),
+            (&three.parent, adopted),
+        )?),
+        Err(error) => {
+            drop(left);
+            drop(right);
+            Err(error)
+        }
+    }
 }
 
 /// The page, its parent and a new page, which are held.

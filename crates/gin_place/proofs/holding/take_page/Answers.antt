@@ -1,313 +1,314 @@
-use Rattle.std.proofs.Common.{◌≡◌, ℕ, List, [], ◌∷◌, sym, subst, ◌∙◌, inl, inr, arith, rules}
-use Rattle.std.specs.Prelude.{Some}
+use Rattle.std.proofs.Common.{◌≡◌, ◌≢◌, List, [], ◌∷◌, Err, refl, sym, subst, ◌∙◌, inl, inr, arith, rules}
+use Rattle.std.specs.Prelude.{Option, Some, None, IfSome, IfNone}
 use Rattle.std.proofs.lemmas.Result.{err_from_is_err_and}
 use Rattle.core_state.specs.Allowed.{Sheet}
-use Rattle.snap_pins.specs.Taken.{IsLeast}
-use Rattle.snap_pins.specs.declared.Pin.{Pin}
 use Rattle.page_space.specs.Taking.{IsTaken, HasNoPage}
+use Rattle.page_space.proofs.NewPages.{taken_new}
 use Rattle.buffer_frames.specs.Passes.{IsHolding}
-use Rattle.buffer_frames.proofs.Exits.{one_error}
+use Rattle.buffer_frames.proofs.Exits.{on_refusal, one_error}
 use Rattle.gin_place.specs.Causes.{Finds, IsBadNew, IsWhy, CannotHold}
+use Rattle.gin_place.specs.Faults.{MetNoFault, FaultBy}
+use Rattle.gin_place.specs.Holding.{HoldsNoMore, HoldsMore, IsNewHeld}
 use Rattle.gin_place.specs.Inner.Asked.{new_page_answer}
-use Rattle.gin_place.specs.Inner.Refusals.{frame_refusal}
 use Rattle.gin_place.specs.declared.error.PlaceError.{PlaceError}
-use Rattle.gin_place.specs.declared.error.PlaceError.TheVariants.{StoreFull}
-use Rattle.gin_place.proofs.Running.{calm_goes}
-use Rattle.gin_place.proofs.Carrying.{reads_by, reads_in_turn, right_on, new_held, no_more}
-use Rattle.gin_place.proofs.Causing.{at_exit, finds_now, hold_why, look_down}
-use Rattle.gin_place.specs.Faults.{FaultBy}
+use Rattle.gin_place.specs.declared.error.PlaceError.TheVariants.{StoreFull, Down}
+use Rattle.gin_place.proofs.Carrying.{reads_in_turn, right_on, new_held, no_more, no_more_in_turn}
+use Rattle.gin_place.proofs.Causing.{at_exit, finds_now, hold_why, ok_not_err, bad_not_full, down_not_full}
+use Rattle.gin_place.proofs.Exits.{no_ok, none_ok}
 use Rattle.gin_place.proofs.Faults.{calm_then, calm_fine, fine_still, fine_then, told_then, down_told}
 use Rattle.gin_place.proofs.holding.take_page.Goals as goal
 
-pub returns-in_err-page-clause-reads : goal.returns-in_err-page-clause-reads
-returns-in_err-page-clause-reads g c =
-    let e1 = c.look.ensures in
-    let r1 = reads_by g.D.Disk c.found_stays.ensures.right c.args.frames.now c.look.new.self c.args.pass.now
-    c.look.new.pass c.requires.pass c.requires.right e1.added e1.sees_on e1.rises e1.pass e1.keeps.pin e1.keeps.room
-    e1.keeps.xid e1.keeps.work e1.pins
-    (calm_goes g.D.Disk e1.calm e1.state e1.added e1.runs_on e1.begins) in
-    r1
+pub ask-requires : goal.ask-requires
+ask-requires g c = record { pass = c.requires.pass; right = c.requires.right }
 
-pub returns-in_err-page-clause-cause : goal.returns-in_err-page-clause-cause
-returns-in_err-page-clause-cause g c =
-    let p = err_from_is_err_and c.from_residual.result c.from_residual.ensures.1 in
-    let d = look_down g.D.Disk c.args.frames.now c.look.result c.in_err-page.field-0.0 c.in_err-page.was
-    c.look.ensures.is_down c.in_err-page.ensures.error in
-    at_exit (λ x. Finds g.D.Disk c.args.frames.now c.args.pass.now (IsWhy g.D.Disk IsBadNew c.look.new.self x))
-    c.from_residual.result p.0 (frame_refusal c.in_err-page.field-0.0) p.1 p.2
-    (subst (λ (x : PlaceError). Finds g.D.Disk c.args.frames.now c.args.pass.now
-    (IsWhy g.D.Disk IsBadNew c.look.new.self x)) (sym d.1)
-    (finds_now g.D.Disk c.args.frames.now c.args.pass.now (λ f p. _) c.requires.pass d.2))
+pub returns-in_err-page : goal.returns-in_err-page
+returns-in_err-page g c =
+    let r = c.from_residual.result in
+    let p = err_from_is_err_and r c.from_residual.ensures.1 in
+    let w = c.in_err-page.field-0.0 in
+    let d = c.in_err-page.ensures.down in
+    let f = c.args.frames.now in
+    let last = c.ask.new.frames in
+    let pass = c.ask.new.pass in
+    record {
+      reads = c.ask.ensures.reads;
+      new = none_ok r p.0 (λ o. IfSome o (λ h. HoldsMore g.D.Disk f c.args.pass.now last pass h
+          × IsNewHeld g.D.Disk last pass h × (h.page ≢ 0))) p.1;
+      taken = none_ok r p.0 (λ o. IfSome o (λ h. IsTaken last.journal.state pass.since h.page)) p.1;
+      old = none_ok r p.0 (λ o. IfNone o (HoldsNoMore g.D.Disk f c.args.pass.now last pass)) p.1;
+      still = on_refusal _ r c.ask.ensures.no_more;
+      full = λ full.
+          let same = one_error r p.0 StoreFull p.1 full in
+          absurd {A = HasNoPage last.journal.state pass.since} (down_not_full d.0 (sym d.1 ∙ sym p.2 ∙ same));
+      cause = at_exit (λ x. Finds g.D.Disk f c.args.pass.now (IsWhy g.D.Disk IsBadNew last x)) r p.0 w p.1 p.2
+          (subst (λ (x : PlaceError). Finds g.D.Disk f c.args.pass.now (IsWhy g.D.Disk IsBadNew last x)) (sym d.1)
+          (finds_now g.D.Disk f c.args.pass.now (IsWhy g.D.Disk IsBadNew last (Down d.0)) c.requires.pass d.2));
+      fine = no_ok r p.0 (MetNoFault g.D.Disk f last) p.1;
+      fault = at_exit (λ x. FaultBy g.D.Disk f last x) r p.0 w p.1 p.2
+          (down_told g.D.Disk f f last w d.0 d.1 (fine_still g.D.Disk f) c.ask.ensures.calm d.2);
+    }
 
-pub returns-in_default-clause-reads : goal.returns-in_default-clause-reads
-returns-in_default-clause-reads g c =
-    let e1 = c.look.ensures in
-    let r1 = reads_by g.D.Disk c.found_stays.ensures.right c.args.frames.now c.look.new.self c.args.pass.now
-    c.look.new.pass c.requires.pass c.requires.right e1.added e1.sees_on e1.rises e1.pass e1.keeps.pin e1.keeps.room
-    e1.keeps.xid e1.keeps.work e1.pins
-    (calm_goes g.D.Disk e1.calm e1.state e1.added e1.runs_on e1.begins) in
-    r1
+-- ── no page is left, or page 0 is taken ──
 
-pub returns-in_default-clause-cause : goal.returns-in_default-clause-cause
-returns-in_default-clause-cause g c =
-    let e1 = c.look.ensures in
-    let r1 = reads_by g.D.Disk c.found_stays.ensures.right c.args.frames.now c.look.new.self c.args.pass.now
-    c.look.new.pass c.requires.pass c.requires.right e1.added e1.sees_on e1.rises e1.pass e1.keeps.pin e1.keeps.room
-    e1.keeps.xid e1.keeps.work e1.pins
-    (calm_goes g.D.Disk e1.calm e1.state e1.added e1.runs_on e1.begins) in
-    let since : IsLeast c.look.new.self.pins (λ (p : Pin). p.length) c.look.new.self.journal.state.records
-    c.look.new.pass.since =
-    subst (λ (n : ℕ). IsLeast c.look.new.self.pins (λ (p : Pin). p.length) n c.look.new.pass.since)
-    c.in_ok-page.ensures.all c.in_ok-page.ensures.since in
-    let none : HasNoPage c.look.new.self.journal.state c.look.new.pass.since = search rules in (
-      c.look.new.self,
-      c.look.new.pass,
-      r1.works,
-      calm_fine g.D.Disk c.args.frames.now c.look.new.self c.look.ensures.calm,
-      (since, none),
-    )
+pub returns-in_default : goal.returns-in_default
+returns-in_default g c =
+    let f = c.args.frames.now in
+    let none : HasNoPage c.ask.new.frames.journal.state c.ask.new.pass.since = search rules in
+    let fine = calm_fine g.D.Disk f c.ask.new.frames c.ask.ensures.calm in
+    record {
+      reads = c.ask.ensures.reads;
+      new = tt;
+      taken = tt;
+      old = tt;
+      still = c.ask.ensures.no_more;
+      full = λ is. none;
+      cause = (
+        c.ask.new.frames,
+        c.ask.new.pass,
+        c.ask.ensures.reads.works,
+        fine,
+        (c.in_ok-page.ensures.since, none),
+      );
+      fine = tt;
+      fault = fine;
+    }
 
-pub returns-then-page-eq0-clause-reads : goal.returns-then-page-eq0-clause-reads
-returns-then-page-eq0-clause-reads g c =
-    let e1 = c.look.ensures in
-    let r1 = reads_by g.D.Disk c.found_stays.ensures.right c.args.frames.now c.look.new.self c.args.pass.now
-    c.look.new.pass c.requires.pass c.requires.right e1.added e1.sees_on e1.rises e1.pass e1.keeps.pin e1.keeps.room
-    e1.keeps.xid e1.keeps.work e1.pins
-    (calm_goes g.D.Disk e1.calm e1.state e1.added e1.runs_on e1.begins) in
-    r1
+pub returns-then-page-eq0 : goal.returns-then-page-eq0
+returns-then-page-eq0 g c =
+    let f = c.args.frames.now in
+    let taken : IsTaken c.ask.new.frames.journal.state c.ask.new.pass.since c.in-Some.page = search rules in
+    let fine = calm_fine g.D.Disk f c.ask.new.frames c.ask.ensures.calm in
+    record {
+      reads = c.ask.ensures.reads;
+      new = tt;
+      taken = tt;
+      old = tt;
+      still = c.ask.ensures.no_more;
+      full = λ is. absurd {A = HasNoPage c.ask.new.frames.journal.state c.ask.new.pass.since}
+          (bad_not_full c.in-Some.page is);
+      cause = (
+        c.ask.new.frames,
+        c.ask.new.pass,
+        c.ask.ensures.reads.works,
+        fine,
+        record { taken = taken; bad = inl c.if-page-eq0.true },
+      );
+      fine = tt;
+      fault = fine;
+    }
 
-pub returns-then-page-eq0-clause-still : goal.returns-then-page-eq0-clause-still
-returns-then-page-eq0-clause-still g c =
-    no_more g.D.Disk c.args.frames.now c.look.new.self c.args.pass.now c.look.new.pass c.look.ensures.holding
-    c.look.ensures.keeps.held
+-- ── the page is held ──
 
-pub returns-then-page-eq0-clause-cause : goal.returns-then-page-eq0-clause-cause
-returns-then-page-eq0-clause-cause g c =
-    let e1 = c.look.ensures in
-    let r1 = reads_by g.D.Disk c.found_stays.ensures.right c.args.frames.now c.look.new.self c.args.pass.now
-    c.look.new.pass c.requires.pass c.requires.right e1.added e1.sees_on e1.rises e1.pass e1.keeps.pin e1.keeps.room
-    e1.keeps.xid e1.keeps.work e1.pins
-    (calm_goes g.D.Disk e1.calm e1.state e1.added e1.runs_on e1.begins) in
-    let taken : IsTaken c.look.new.self.journal.state c.look.new.pass.since c.in-Some.page = search rules in (
-      c.look.new.self,
-      c.look.new.pass,
-      r1.works,
-      calm_fine g.D.Disk c.args.frames.now c.look.new.self c.look.ensures.calm,
-      record { taken = taken; bad = inl c.if-page-eq0.true },
-    )
+pub hold_page-requires : goal.hold_page-requires
+hold_page-requires g c =
+    let works = c.ask.ensures.reads.works in
+    record {
+      pass = works.is_pass;
+      right = right_on g.D.Disk c.args.frames.now c.ask.new.frames c.args.pass.now c.ask.new.pass [] c.requires.right
+          works;
+      few = omega (arith, c.ask.ensures.no_more.held, c.requires.few);
+    }
 
-pub returns-in_err-held-clause-reads : goal.returns-in_err-held-clause-reads
-returns-in_err-held-clause-reads g c =
-    let e1 = c.look.ensures in
-    let r1 = reads_by g.D.Disk c.found_stays.ensures.right c.args.frames.now c.look.new.self c.args.pass.now
-    c.look.new.pass c.requires.pass c.requires.right e1.added e1.sees_on e1.rises e1.pass e1.keeps.pin e1.keeps.room
-    e1.keeps.xid e1.keeps.work e1.pins
-    (calm_goes g.D.Disk e1.calm e1.state e1.added e1.runs_on e1.begins) in
-    let r2 = reads_in_turn g.D.Disk c.args.frames.now c.look.new.self c.hold_page.new.frames c.args.pass.now
-    c.look.new.pass c.hold_page.new.pass r1 c.hold_page.ensures.reads in
-    r2
-
-pub returns-in_err-held-clause-cause : goal.returns-in_err-held-clause-cause
-returns-in_err-held-clause-cause g c =
-    let e1 = c.look.ensures in
-    let r1 = reads_by g.D.Disk c.found_stays.ensures.right c.args.frames.now c.look.new.self c.args.pass.now
-    c.look.new.pass c.requires.pass c.requires.right e1.added e1.sees_on e1.rises e1.pass e1.keeps.pin e1.keeps.room
-    e1.keeps.xid e1.keeps.work e1.pins
-    (calm_goes g.D.Disk e1.calm e1.state e1.added e1.runs_on e1.begins) in
-    let taken : IsTaken c.look.new.self.journal.state c.look.new.pass.since c.in-Some.page = search rules in
-    let p = err_from_is_err_and c.from_residual-in_err-held.result c.from_residual-in_err-held.ensures.1 in
+pub returns-in_err-held : goal.returns-in_err-held
+returns-in_err-held g c =
+    let r = c.from_residual-in_err-held.result in
+    let p = err_from_is_err_and r c.from_residual-in_err-held.ensures.1 in
     let w = c.in_err-held.field-0.0 in
-    at_exit (λ x. Finds g.D.Disk c.args.frames.now c.args.pass.now
-    (IsWhy g.D.Disk IsBadNew c.hold_page.new.frames x))
-    c.from_residual-in_err-held.result p.0 w p.1 p.2 (
-      c.look.new.self,
-      c.look.new.pass,
-      r1.works,
-      calm_fine g.D.Disk c.args.frames.now c.look.new.self c.look.ensures.calm,
-      hold_why g.D.Disk IsBadNew c.in-Some.page c.hold_page.new.frames w c.look.new.self c.look.new.pass
-          (λ bad. record { taken = taken; bad = inr bad }) c.in_err-held.ensures.cause,
-    )
+    let f = c.args.frames.now in
+    let first = c.ask.new.frames in
+    let last = c.hold_page.new.frames in
+    let pass = c.hold_page.new.pass in
+    let taken : IsTaken first.journal.state c.ask.new.pass.since c.in-Some.page = search rules in
+    let fine = calm_fine g.D.Disk f first c.ask.ensures.calm in
+    record {
+      reads = reads_in_turn g.D.Disk f first last c.args.pass.now c.ask.new.pass pass c.ask.ensures.reads
+          c.hold_page.ensures.reads;
+      new = none_ok r p.0 (λ o. IfSome o (λ h. HoldsMore g.D.Disk f c.args.pass.now last pass h
+          × IsNewHeld g.D.Disk last pass h × (h.page ≢ 0))) p.1;
+      taken = none_ok r p.0 (λ o. IfSome o (λ h. IsTaken last.journal.state pass.since h.page)) p.1;
+      old = none_ok r p.0 (λ o. IfNone o (HoldsNoMore g.D.Disk f c.args.pass.now last pass)) p.1;
+      still = on_refusal _ r
+          (no_more_in_turn g.D.Disk f first last c.args.pass.now c.ask.new.pass pass c.ask.ensures.no_more
+          c.in_err-held.ensures.still);
+      full = λ full.
+          let same = one_error r p.0 StoreFull p.1 full in
+          absurd {A = HasNoPage last.journal.state pass.since}
+          (subst (λ (x : PlaceError). CannotHold g.D.Disk c.in-Some.page last x first c.ask.new.pass) (sym p.2 ∙ same)
+          c.in_err-held.ensures.cause);
+      cause = at_exit (λ x. Finds g.D.Disk f c.args.pass.now (IsWhy g.D.Disk IsBadNew last x)) r p.0 w p.1 p.2 (
+        first,
+        c.ask.new.pass,
+        c.ask.ensures.reads.works,
+        fine,
+        hold_why g.D.Disk IsBadNew c.in-Some.page last w first c.ask.new.pass
+            (λ bad. record { taken = taken; bad = inr bad }) c.in_err-held.ensures.cause,
+      );
+      fine = no_ok r p.0 (MetNoFault g.D.Disk f last) p.1;
+      fault = at_exit (λ x. FaultBy g.D.Disk f last x) r p.0 w p.1 p.2
+          (told_then g.D.Disk f first last w fine c.in_err-held.ensures.fault);
+    }
 
-pub returns-in_err-held-clause-full : goal.returns-in_err-held-clause-full
-returns-in_err-held-clause-full g c =
-    λ full.
-    let p = err_from_is_err_and c.from_residual-in_err-held.result c.from_residual-in_err-held.ensures.1 in
-    let same = one_error c.from_residual-in_err-held.result p.0 StoreFull p.1 full in
-    absurd {A = HasNoPage c.hold_page.new.frames.journal.state c.hold_page.new.pass.since}
-    (subst (λ (x : PlaceError). CannotHold g.D.Disk c.in-Some.page c.hold_page.new.frames x c.look.new.self
-    c.look.new.pass) (sym p.2 ∙ same) c.in_err-held.ensures.cause)
+-- ── and it is asked again ──
 
-pub release-requires-clause-holding : goal.release-requires-clause-holding
-release-requires-clause-holding g c =
-    let more : (held : List Sheet) → IsHolding g.D.Disk c.args.frames.now c.args.pass.now held
-    → IsHolding g.D.Disk c.look-2.new.self c.look-2.new.pass (c.in_ok-held.held ∷ held) =
-    λ held h. c.look-2.ensures.holding (c.in_ok-held.held ∷ held)
-    (c.in_ok-held.ensures.holding held (c.look.ensures.holding held h)) in
-    (c.requires.holding.0, more c.requires.holding.0 c.requires.holding.1)
+pub ask-requires-2 : goal.ask-requires-2
+ask-requires-2 g c =
+    let reads = reads_in_turn g.D.Disk c.args.frames.now c.ask.new.frames c.hold_page.new.frames c.args.pass.now
+    c.ask.new.pass c.hold_page.new.pass c.ask.ensures.reads c.hold_page.ensures.reads in
+    record {
+      pass = reads.works.is_pass;
+      right = right_on g.D.Disk c.args.frames.now c.hold_page.new.frames c.args.pass.now c.hold_page.new.pass []
+          c.requires.right reads.works;
+    }
 
-pub returns-in-Ok-Some-clause-reads : goal.returns-in-Ok-Some-clause-reads
-returns-in-Ok-Some-clause-reads g c =
-    let e1 = c.look.ensures in
-    let r1 = reads_by g.D.Disk c.found_stays.ensures.right c.args.frames.now c.look.new.self c.args.pass.now
-    c.look.new.pass c.requires.pass c.requires.right e1.added e1.sees_on e1.rises e1.pass e1.keeps.pin e1.keeps.room
-    e1.keeps.xid e1.keeps.work e1.pins
-    (calm_goes g.D.Disk e1.calm e1.state e1.added e1.runs_on e1.begins) in
-    let r2 = reads_in_turn g.D.Disk c.args.frames.now c.look.new.self c.hold_page.new.frames c.args.pass.now
-    c.look.new.pass c.hold_page.new.pass r1 c.hold_page.ensures.reads in
-    let e3 = c.look-2.ensures in
-    let r3 = reads_in_turn g.D.Disk c.args.frames.now c.hold_page.new.frames c.look-2.new.self c.args.pass.now
-    c.hold_page.new.pass c.look-2.new.pass r2
-    (reads_by g.D.Disk c.found_stays.ensures.right c.hold_page.new.frames c.look-2.new.self c.hold_page.new.pass
-    c.look-2.new.pass r2.works.is_pass
-    (right_on g.D.Disk c.args.frames.now c.hold_page.new.frames c.args.pass.now c.hold_page.new.pass [] c.requires.right
-    r2.works) e3.added e3.sees_on e3.rises e3.pass e3.keeps.pin e3.keeps.room e3.keeps.xid e3.keeps.work e3.pins
-    (calm_goes g.D.Disk e3.calm e3.state e3.added e3.runs_on e3.begins)) in
-    r3
-
-pub returns-in-Ok-Some-clause-new : goal.returns-in-Ok-Some-clause-new
-returns-in-Ok-Some-clause-new g c =
-    let more : (held : List Sheet) → IsHolding g.D.Disk c.args.frames.now c.args.pass.now held
-    → IsHolding g.D.Disk c.look-2.new.self c.look-2.new.pass (c.in_ok-held.held ∷ held) =
-    λ held h. c.look-2.ensures.holding (c.in_ok-held.held ∷ held)
-    (c.in_ok-held.ensures.holding held (c.look.ensures.holding held h)) in
-    let taken : new_page_answer (record {}) c.look-2.new.self.journal.state c.look-2.new.pass.floor
-    c.look-2.new.pass.since (Some c.in-Ok-Some.again) = search rules in
-    let same : c.in-Ok-Some.again ≡ c.in_ok-held.held.page = search rules in (
-      more,
-      new_held g.D.Disk c.taken_is_new.ensures c.look-2.new.self c.look-2.new.pass c.in_ok-held.held
-          c.requires.holding.0 (more c.requires.holding.0 c.requires.holding.1) c.in-Ok-Some.ensures.all
-          (subst (IsTaken c.look-2.new.self.journal.state c.look-2.new.pass.since) same taken)
-          c.in-Ok-Some.ensures.seen,
-      λ zero. c.if-page-eq0.false (sym c.if-again-page.true ∙ same ∙ zero),
-    )
-
-pub returns-in-Ok-clause-reads : goal.returns-in-Ok-clause-reads
-returns-in-Ok-clause-reads g c =
-    let e1 = c.look.ensures in
-    let r1 = reads_by g.D.Disk c.found_stays.ensures.right c.args.frames.now c.look.new.self c.args.pass.now
-    c.look.new.pass c.requires.pass c.requires.right e1.added e1.sees_on e1.rises e1.pass e1.keeps.pin e1.keeps.room
-    e1.keeps.xid e1.keeps.work e1.pins
-    (calm_goes g.D.Disk e1.calm e1.state e1.added e1.runs_on e1.begins) in
-    let r2 = reads_in_turn g.D.Disk c.args.frames.now c.look.new.self c.hold_page.new.frames c.args.pass.now
-    c.look.new.pass c.hold_page.new.pass r1 c.hold_page.ensures.reads in
-    let e3 = c.look-2.ensures in
-    let r3 = reads_in_turn g.D.Disk c.args.frames.now c.hold_page.new.frames c.look-2.new.self c.args.pass.now
-    c.hold_page.new.pass c.look-2.new.pass r2
-    (reads_by g.D.Disk c.found_stays.ensures.right c.hold_page.new.frames c.look-2.new.self c.hold_page.new.pass
-    c.look-2.new.pass r2.works.is_pass
-    (right_on g.D.Disk c.args.frames.now c.hold_page.new.frames c.args.pass.now c.hold_page.new.pass [] c.requires.right
-    r2.works) e3.added e3.sees_on e3.rises e3.pass e3.keeps.pin e3.keeps.room e3.keeps.xid e3.keeps.work e3.pins
-    (calm_goes g.D.Disk e3.calm e3.state e3.added e3.runs_on e3.begins)) in
-    reads_in_turn g.D.Disk c.args.frames.now c.look-2.new.self c.release.new.frames c.args.pass.now c.look-2.new.pass
-    c.release.new.pass r3 c.release.ensures.reads
-
-pub returns-in-Ok-clause-old : goal.returns-in-Ok-clause-old
-returns-in-Ok-clause-old g c =
-    let more : (held : List Sheet) → IsHolding g.D.Disk c.args.frames.now c.args.pass.now held
-    → IsHolding g.D.Disk c.look-2.new.self c.look-2.new.pass (c.in_ok-held.held ∷ held) =
-    λ held h. c.look-2.ensures.holding (c.in_ok-held.held ∷ held)
-    (c.in_ok-held.ensures.holding held (c.look.ensures.holding held h)) in
-    no_more g.D.Disk c.args.frames.now c.release.new.frames c.args.pass.now c.release.new.pass
-    (λ held h. c.release.ensures.holding held (more held h))
-    (let first = more c.requires.holding.0 c.requires.holding.1 in
-    let last = c.release.ensures.holding c.requires.holding.0 first in
-    omega (arith, last.all, c.requires.holding.1.all))
-
-pub returns-in-Err-clause-reads : goal.returns-in-Err-clause-reads
-returns-in-Err-clause-reads g c =
-    let e1 = c.look.ensures in
-    let r1 = reads_by g.D.Disk c.found_stays.ensures.right c.args.frames.now c.look.new.self c.args.pass.now
-    c.look.new.pass c.requires.pass c.requires.right e1.added e1.sees_on e1.rises e1.pass e1.keeps.pin e1.keeps.room
-    e1.keeps.xid e1.keeps.work e1.pins
-    (calm_goes g.D.Disk e1.calm e1.state e1.added e1.runs_on e1.begins) in
-    let r2 = reads_in_turn g.D.Disk c.args.frames.now c.look.new.self c.hold_page.new.frames c.args.pass.now
-    c.look.new.pass c.hold_page.new.pass r1 c.hold_page.ensures.reads in
-    let e3 = c.look-2.ensures in
-    let r3 = reads_in_turn g.D.Disk c.args.frames.now c.hold_page.new.frames c.look-2.new.self c.args.pass.now
-    c.hold_page.new.pass c.look-2.new.pass r2
-    (reads_by g.D.Disk c.found_stays.ensures.right c.hold_page.new.frames c.look-2.new.self c.hold_page.new.pass
-    c.look-2.new.pass r2.works.is_pass
-    (right_on g.D.Disk c.args.frames.now c.hold_page.new.frames c.args.pass.now c.hold_page.new.pass [] c.requires.right
-    r2.works) e3.added e3.sees_on e3.rises e3.pass e3.keeps.pin e3.keeps.room e3.keeps.xid e3.keeps.work e3.pins
-    (calm_goes g.D.Disk e3.calm e3.state e3.added e3.runs_on e3.begins)) in
-    reads_in_turn g.D.Disk c.args.frames.now c.look-2.new.self c.release-in-Err.new.frames c.args.pass.now
-    c.look-2.new.pass
-    c.release-in-Err.new.pass r3 c.release-in-Err.ensures.reads
-
-pub returns-in-Err-clause-cause : goal.returns-in-Err-clause-cause
-returns-in-Err-clause-cause g c =
-    let e1 = c.look.ensures in
-    let r1 = reads_by g.D.Disk c.found_stays.ensures.right c.args.frames.now c.look.new.self c.args.pass.now
-    c.look.new.pass c.requires.pass c.requires.right e1.added e1.sees_on e1.rises e1.pass e1.keeps.pin e1.keeps.room
-    e1.keeps.xid e1.keeps.work e1.pins
-    (calm_goes g.D.Disk e1.calm e1.state e1.added e1.runs_on e1.begins) in
-    let r2 = reads_in_turn g.D.Disk c.args.frames.now c.look.new.self c.hold_page.new.frames c.args.pass.now
-    c.look.new.pass c.hold_page.new.pass r1 c.hold_page.ensures.reads in
-    let d = look_down g.D.Disk c.hold_page.new.frames c.look-2.result c.in-Err.error c.in-Err.is
-    c.look-2.ensures.is_down c.in-Err.ensures.error in (
-      c.hold_page.new.frames,
-      c.hold_page.new.pass,
-      r2.works,
-      fine_then g.D.Disk c.args.frames.now c.look.new.self c.hold_page.new.frames
-          (calm_fine g.D.Disk c.args.frames.now c.look.new.self c.look.ensures.calm) c.in_ok-held.ensures.fine,
-      subst (λ (x : PlaceError). IsWhy g.D.Disk IsBadNew c.release-in-Err.new.frames x c.hold_page.new.frames
-          c.hold_page.new.pass) (sym (c.from.ensures ∙ d.1)) d.2,
-    )
-
-pub returns-in-Ok-Some-clause-taken : goal.returns-in-Ok-Some-clause-taken
-returns-in-Ok-Some-clause-taken g c =
-    let taken : new_page_answer (record {}) c.look-2.new.self.journal.state c.look-2.new.pass.floor
-    c.look-2.new.pass.since (Some c.in-Ok-Some.again) = search rules in
+pub returns-in-Ok-Some : goal.returns-in-Ok-Some
+returns-in-Ok-Some g c =
+    let f = c.args.frames.now in
+    let reads = reads_in_turn g.D.Disk f c.ask.new.frames c.hold_page.new.frames c.args.pass.now c.ask.new.pass
+    c.hold_page.new.pass c.ask.ensures.reads c.hold_page.ensures.reads in
+    let more : (held : List Sheet) → IsHolding g.D.Disk f c.args.pass.now held
+    → IsHolding g.D.Disk c.ask-2.new.frames c.ask-2.new.pass (c.in_ok-held.held ∷ held) =
+    λ held h. c.ask-2.ensures.no_more.holding (c.in_ok-held.held ∷ held)
+    (c.in_ok-held.ensures.holding held (c.ask.ensures.no_more.holding held h)) in
+    let again : new_page_answer (record {}) c.ask-2.new.frames.journal.state c.ask-2.new.pass.floor
+    c.ask-2.new.pass.since (Some c.in-Ok-Some.again) = search rules in
     let same : c.in-Ok-Some.again ≡ c.in_ok-held.held.page = search rules in
-    subst (IsTaken c.look-2.new.self.journal.state c.look-2.new.pass.since) same taken
+    let taken = subst (IsTaken c.ask-2.new.frames.journal.state c.ask-2.new.pass.since) same again in
+    record {
+      reads = reads_in_turn g.D.Disk f c.hold_page.new.frames c.ask-2.new.frames c.args.pass.now c.hold_page.new.pass
+          c.ask-2.new.pass reads c.ask-2.ensures.reads;
+      new = (
+        more,
+        new_held g.D.Disk taken_new c.ask-2.new.frames c.ask-2.new.pass c.in_ok-held.held
+            c.requires.holding.0 (more c.requires.holding.0 c.requires.holding.1) c.in-Ok-Some.ensures.all taken
+            c.in-Ok-Some.ensures.told,
+        λ zero. c.if-page-eq0.false (sym c.if-again-page.true ∙ same ∙ zero),
+      );
+      taken = taken;
+      old = tt;
+      still = tt;
+      full = λ is. absurd {A = HasNoPage c.ask-2.new.frames.journal.state c.ask-2.new.pass.since}
+          (ok_not_err (Some c.in_ok-held.held) StoreFull is);
+      cause = tt;
+      fine = fine_then g.D.Disk f c.ask.new.frames c.ask-2.new.frames
+          (calm_fine g.D.Disk f c.ask.new.frames c.ask.ensures.calm)
+          (fine_then g.D.Disk c.ask.new.frames c.hold_page.new.frames c.ask-2.new.frames c.in_ok-held.ensures.fine
+          (calm_fine g.D.Disk c.hold_page.new.frames c.ask-2.new.frames c.ask-2.ensures.calm));
+      fault = tt;
+    }
 
-pub returns-in_err-page-clause-fault : goal.returns-in_err-page-clause-fault
-returns-in_err-page-clause-fault g c =
-    let p = err_from_is_err_and c.from_residual.result c.from_residual.ensures.1 in
-    let d = look_down g.D.Disk c.args.frames.now c.look.result c.in_err-page.field-0.0 c.in_err-page.was
-    c.look.ensures.is_down c.in_err-page.ensures.error in
-    at_exit (λ x. FaultBy g.D.Disk c.args.frames.now c.look.new.self x) c.from_residual.result p.0
-    (frame_refusal c.in_err-page.field-0.0) p.1 p.2
-    (down_told g.D.Disk c.args.frames.now c.args.frames.now c.look.new.self (frame_refusal c.in_err-page.field-0.0) d.0
-    d.1 (fine_still g.D.Disk c.args.frames.now) c.look.ensures.calm d.2)
+-- ── another page is taken then ──
 
-pub returns-in_default-clause-fault : goal.returns-in_default-clause-fault
-returns-in_default-clause-fault g c = calm_fine g.D.Disk c.args.frames.now c.look.new.self c.look.ensures.calm
+pub release-requires : goal.release-requires
+release-requires g c =
+    let reads = reads_in_turn g.D.Disk c.args.frames.now c.ask.new.frames c.hold_page.new.frames c.args.pass.now
+    c.ask.new.pass c.hold_page.new.pass c.ask.ensures.reads c.hold_page.ensures.reads in
+    let all = reads_in_turn g.D.Disk c.args.frames.now c.hold_page.new.frames c.ask-2.new.frames c.args.pass.now
+    c.hold_page.new.pass c.ask-2.new.pass reads c.ask-2.ensures.reads in
+    record {
+      pass = all.works.is_pass;
+      right = right_on g.D.Disk c.args.frames.now c.ask-2.new.frames c.args.pass.now c.ask-2.new.pass []
+          c.requires.right all.works;
+      holding = (
+        c.requires.holding.0,
+        c.ask-2.ensures.no_more.holding (c.in_ok-held.held ∷ c.requires.holding.0)
+            (c.in_ok-held.ensures.holding c.requires.holding.0
+            (c.ask.ensures.no_more.holding c.requires.holding.0 c.requires.holding.1)),
+      );
+    }
 
-pub returns-then-page-eq0-clause-fault : goal.returns-then-page-eq0-clause-fault
-returns-then-page-eq0-clause-fault g c = calm_fine g.D.Disk c.args.frames.now c.look.new.self c.look.ensures.calm
+pub returns-in-Ok : goal.returns-in-Ok
+returns-in-Ok g c =
+    let f = c.args.frames.now in
+    let last = c.release.new.frames in
+    let reads = reads_in_turn g.D.Disk f c.ask.new.frames c.hold_page.new.frames c.args.pass.now c.ask.new.pass
+    c.hold_page.new.pass c.ask.ensures.reads c.hold_page.ensures.reads in
+    let all = reads_in_turn g.D.Disk f c.hold_page.new.frames c.ask-2.new.frames c.args.pass.now c.hold_page.new.pass
+    c.ask-2.new.pass reads c.ask-2.ensures.reads in
+    let more : (held : List Sheet) → IsHolding g.D.Disk f c.args.pass.now held
+    → IsHolding g.D.Disk c.ask-2.new.frames c.ask-2.new.pass (c.in_ok-held.held ∷ held) =
+    λ held h. c.ask-2.ensures.no_more.holding (c.in_ok-held.held ∷ held)
+    (c.in_ok-held.ensures.holding held (c.ask.ensures.no_more.holding held h)) in
+    record {
+      reads = reads_in_turn g.D.Disk f c.ask-2.new.frames last c.args.pass.now c.ask-2.new.pass c.release.new.pass all
+          c.release.ensures.reads;
+      new = tt;
+      taken = tt;
+      old = no_more g.D.Disk f last c.args.pass.now c.release.new.pass
+          (λ held h. c.release.ensures.holding held (more held h))
+          (let last = c.release.ensures.holding c.requires.holding.0
+          (more c.requires.holding.0 c.requires.holding.1) in
+          omega (arith, last.all, c.requires.holding.1.all));
+      still = tt;
+      full = λ is. absurd {A = HasNoPage last.journal.state c.release.new.pass.since}
+          (ok_not_err {T = Option Sheet} None StoreFull is);
+      cause = tt;
+      fine = fine_then g.D.Disk f c.ask.new.frames last (calm_fine g.D.Disk f c.ask.new.frames c.ask.ensures.calm)
+          (fine_then g.D.Disk c.ask.new.frames c.hold_page.new.frames last c.in_ok-held.ensures.fine
+          (calm_fine g.D.Disk c.hold_page.new.frames last
+          (calm_then g.D.Disk c.hold_page.new.frames c.ask-2.new.frames last c.ask-2.ensures.calm
+          c.release.ensures.calm)));
+      fault = tt;
+    }
 
-pub returns-in_err-held-clause-fault : goal.returns-in_err-held-clause-fault
-returns-in_err-held-clause-fault g c =
-    let p = err_from_is_err_and c.from_residual-in_err-held.result c.from_residual-in_err-held.ensures.1 in
-    at_exit (λ x. FaultBy g.D.Disk c.args.frames.now c.hold_page.new.frames x) c.from_residual-in_err-held.result p.0
-    c.in_err-held.field-0.0 p.1 p.2
-    (told_then g.D.Disk c.args.frames.now c.look.new.self c.hold_page.new.frames c.in_err-held.field-0.0
-    (calm_fine g.D.Disk c.args.frames.now c.look.new.self c.look.ensures.calm) c.in_err-held.ensures.fault)
+-- ── or the journal is down ──
 
-pub returns-in-Ok-Some-clause-fine : goal.returns-in-Ok-Some-clause-fine
-returns-in-Ok-Some-clause-fine g c =
-    fine_then g.D.Disk c.args.frames.now c.look.new.self c.look-2.new.self
-    (calm_fine g.D.Disk c.args.frames.now c.look.new.self c.look.ensures.calm)
-    (fine_then g.D.Disk c.look.new.self c.hold_page.new.frames c.look-2.new.self c.in_ok-held.ensures.fine
-    (calm_fine g.D.Disk c.hold_page.new.frames c.look-2.new.self c.look-2.ensures.calm))
+pub release-requires-in-Err : goal.release-requires-in-Err
+release-requires-in-Err g c =
+    let reads = reads_in_turn g.D.Disk c.args.frames.now c.ask.new.frames c.hold_page.new.frames c.args.pass.now
+    c.ask.new.pass c.hold_page.new.pass c.ask.ensures.reads c.hold_page.ensures.reads in
+    let all = reads_in_turn g.D.Disk c.args.frames.now c.hold_page.new.frames c.ask-2.new.frames c.args.pass.now
+    c.hold_page.new.pass c.ask-2.new.pass reads c.ask-2.ensures.reads in
+    record {
+      pass = all.works.is_pass;
+      right = right_on g.D.Disk c.args.frames.now c.ask-2.new.frames c.args.pass.now c.ask-2.new.pass []
+          c.requires.right all.works;
+      holding = (
+        c.requires.holding.0,
+        c.ask-2.ensures.no_more.holding (c.in_ok-held.held ∷ c.requires.holding.0)
+            (c.in_ok-held.ensures.holding c.requires.holding.0
+            (c.ask.ensures.no_more.holding c.requires.holding.0 c.requires.holding.1)),
+      );
+    }
 
-pub returns-in-Ok-clause-fine : goal.returns-in-Ok-clause-fine
-returns-in-Ok-clause-fine g c =
-    fine_then g.D.Disk c.args.frames.now c.look.new.self c.release.new.frames
-    (calm_fine g.D.Disk c.args.frames.now c.look.new.self c.look.ensures.calm)
-    (fine_then g.D.Disk c.look.new.self c.hold_page.new.frames c.release.new.frames c.in_ok-held.ensures.fine
-    (calm_fine g.D.Disk c.hold_page.new.frames c.release.new.frames
-    (calm_then g.D.Disk c.hold_page.new.frames c.look-2.new.self c.release.new.frames c.look-2.ensures.calm
-    c.release.ensures.calm)))
-
-pub returns-in-Err-clause-fault : goal.returns-in-Err-clause-fault
-returns-in-Err-clause-fault g c =
-    let d = look_down g.D.Disk c.hold_page.new.frames c.look-2.result c.in-Err.error c.in-Err.is
-    c.look-2.ensures.is_down c.in-Err.ensures.error in
-    down_told g.D.Disk c.args.frames.now c.hold_page.new.frames c.release-in-Err.new.frames c.from.result d.0
-    (c.from.ensures ∙ d.1)
-    (fine_then g.D.Disk c.args.frames.now c.look.new.self c.hold_page.new.frames
-    (calm_fine g.D.Disk c.args.frames.now c.look.new.self c.look.ensures.calm) c.in_ok-held.ensures.fine)
-    (calm_then g.D.Disk c.hold_page.new.frames c.look-2.new.self c.release-in-Err.new.frames c.look-2.ensures.calm
-    c.release-in-Err.ensures.calm) d.2
+pub returns-in-Err : goal.returns-in-Err
+returns-in-Err g c =
+    let f = c.args.frames.now in
+    let back = c.release-in-Err in
+    let d = c.in-Err.ensures.down in
+    let reads = reads_in_turn g.D.Disk f c.ask.new.frames c.hold_page.new.frames c.args.pass.now c.ask.new.pass
+    c.hold_page.new.pass c.ask.ensures.reads c.hold_page.ensures.reads in
+    let all = reads_in_turn g.D.Disk f c.hold_page.new.frames c.ask-2.new.frames c.args.pass.now c.hold_page.new.pass
+    c.ask-2.new.pass reads c.ask-2.ensures.reads in
+    let more : (held : List Sheet) → IsHolding g.D.Disk f c.args.pass.now held
+    → IsHolding g.D.Disk c.ask-2.new.frames c.ask-2.new.pass (c.in_ok-held.held ∷ held) =
+    λ held h. c.ask-2.ensures.no_more.holding (c.in_ok-held.held ∷ held)
+    (c.in_ok-held.ensures.holding held (c.ask.ensures.no_more.holding held h)) in
+    let fine = fine_then g.D.Disk f c.ask.new.frames c.hold_page.new.frames
+    (calm_fine g.D.Disk f c.ask.new.frames c.ask.ensures.calm) c.in_ok-held.ensures.fine in
+    record {
+      reads = reads_in_turn g.D.Disk f c.ask-2.new.frames back.new.frames c.args.pass.now c.ask-2.new.pass
+          back.new.pass all back.ensures.reads;
+      new = tt;
+      taken = tt;
+      old = tt;
+      still = no_more g.D.Disk f back.new.frames c.args.pass.now back.new.pass
+          (λ held h. back.ensures.holding held (more held h))
+          (let last = back.ensures.holding c.requires.holding.0
+          (more c.requires.holding.0 c.requires.holding.1) in
+          omega (arith, last.all, c.requires.holding.1.all));
+      full = λ full. absurd {A = HasNoPage back.new.frames.journal.state back.new.pass.since}
+          (down_not_full d.0 (sym d.1 ∙ one_error {T = Option Sheet} (Err c.in-Err.error) c.in-Err.error StoreFull refl
+          full));
+      cause = (
+        c.hold_page.new.frames,
+        c.hold_page.new.pass,
+        reads.works,
+        fine,
+        subst (λ (x : PlaceError). IsWhy g.D.Disk IsBadNew back.new.frames x c.hold_page.new.frames
+            c.hold_page.new.pass) (sym d.1) d.2,
+      );
+      fine = tt;
+      fault = down_told g.D.Disk f c.hold_page.new.frames back.new.frames c.in-Err.error d.0 d.1 fine
+          (calm_then g.D.Disk c.hold_page.new.frames c.ask-2.new.frames back.new.frames c.ask-2.ensures.calm
+          back.ensures.calm) d.2;
+    }

@@ -1,13 +1,15 @@
 use Rattle.std.proofs.Common.{[], ◌∷◌, subst}
+use Rattle.std.proofs.lemmas.Result.{err_from_is_err_and}
 use Rattle.page_types.specs.Records.{kind_number}
 use Rattle.page_types.specs.declared.record.Kind.{Kind}
+use Rattle.buffer_frames.proofs.Exits.{on_refusal}
 use Rattle.gin_place.specs.Going.{WorksOn}
 use Rattle.gin_place.specs.Causes.{Finds, IsBadRoom, HadPage, IsWhy, CannotLog}
 use Rattle.gin_place.specs.Holding.{ReadsOn}
 use Rattle.gin_place.specs.Inner.Logging.{LogsStep}
 use Rattle.gin_place.proofs.Carrying.{reads_in_turn, works_in_turn, right_on}
-use Rattle.gin_place.proofs.Causing.{log_why}
-use Rattle.gin_place.proofs.Exits.{on_ok, on_err, if_err}
+use Rattle.gin_place.proofs.Causing.{at_exit, log_why}
+use Rattle.gin_place.proofs.Exits.{on_ok, on_err, if_err, no_ok}
 use Rattle.gin_place.proofs.Dividing.{split_may_log}
 use Rattle.gin_place.proofs.SplitCauses.{split_why, split_fault}
 use Rattle.gin_place.specs.Faults.{MetNoFault, FaultBy}
@@ -102,3 +104,31 @@ returns-in-Err-clause-fault g c =
     (fine_then g.D.Disk c.args.frames.now c.hold_three.new.frames c.give_back.new.frames c.in_ok-three.ensures.fine
     (calm_fine g.D.Disk c.hold_three.new.frames c.give_back.new.frames c.give_back.ensures.calm))
     c.in-Err.ensures.cause
+
+pub returns-in_err-three : goal.returns-in_err-three
+returns-in_err-three g c =
+    let r = c.from_residual.result in
+    let p = err_from_is_err_and r c.from_residual.ensures.1 in
+    let w = c.in_err-three.field-0.0 in
+    let e = c.in_err-three.ensures in
+    let f = c.args.frames.now in
+    let last = c.hold_three.new.frames in
+    record {
+      none_held = e.still;
+      divided = no_ok r p.0 (WorksOn g.D.Disk f c.args.pass.now last c.hold_three.new.pass (17 ∷ [])) p.1;
+      took = no_ok r p.0 (HadPage g.D.Disk f c.args.pass.now) p.1;
+      refused = on_refusal _ r c.hold_three.ensures.reads;
+      cause = λ other. at_exit (λ x. Finds g.D.Disk f c.args.pass.now
+          (IsWhy g.D.Disk (IsBadRoom c.args.sought c.args.parent c.args.page) last x)) r p.0 w p.1 p.2
+          (e.cause c.args.sought other);
+      fine = no_ok r p.0 (MetNoFault g.D.Disk f last) p.1;
+      fault = at_exit (λ x. FaultBy g.D.Disk f last x) r p.0 w p.1 p.2 e.fault;
+    }
+
+pub give_back-requires : goal.give_back-requires
+give_back-requires g c = record {
+  pass = c.hold_three.ensures.reads.works.is_pass;
+  right = right_on g.D.Disk c.args.frames.now c.hold_three.new.frames c.args.pass.now c.hold_three.new.pass []
+      c.requires.right c.hold_three.ensures.reads.works;
+  holding = c.in_ok-three.ensures.holding;
+}

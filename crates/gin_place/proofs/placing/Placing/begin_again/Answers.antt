@@ -29,8 +29,7 @@ make_room-requires g c =
     }
 
 pub returns-in_err-make_room : goal.returns-in_err-make_room
-returns-in_err-make_room g c =
-    let r = c.requires.read in
+returns-in_err-make_room g c = λ r.
     let back = c.release.ensures.reads in
     let p = err_from_is_err_and c.from_residual.result c.from_residual.ensures.1 in
     let w = c.in_err-make_room.field-0.0 in
@@ -47,8 +46,7 @@ returns-in_err-make_room g c =
     (told_then g.D.Disk c.args.frames.now c.release.new.frames c.make_room.new.frames w fine e.fault))
 
 pub returns-then-self : goal.returns-then-self
-returns-then-self g c =
-    let r = c.requires.read in
+returns-then-self g c = λ r.
     let back = c.release.ensures.reads in
     let e = c.in_ok-make_room.ensures in
     let fine = calm_fine g.D.Disk c.args.frames.now c.release.new.frames c.release.ensures.calm in
@@ -65,8 +63,7 @@ returns-then-self g c =
     c.seek.ensures)
 
 pub returns : goal.returns
-returns g c =
-    let r = c.requires.read in
+returns g c = λ r.
     let back = c.release.ensures.reads in
     let first : c.args.self.now.making_room ≡ false = search (rules, c.if-self.false) in
     room_wanted g.D.Disk c.args.frames.now c.args.pass.now c.args.key.now c.args.items.now c.args.self.now c.args.sought

@@ -188,10 +188,15 @@ returns-in-Ok-Long g c =
 
 pub returns-in-Ok-Full : goal.returns-in-Ok-Full
 returns-in-Ok-Full g c =
+    let is_page = subst IsPage c.page.ensures.value c.page.ensures.is_page in
+    let holds = holds_at g.D.Disk c.args.frames.now c.hold_next.new.frames c.args.pass.now
+    c.hold_next.new.pass c.hold_next.ensures.reads c.requires.right c.args.key.now c.args.items.now
+    c.args.self.now c.in-At.sought c.in-At.parent c.in-At.page c.in_ok-held.held
+    c.in_ok-held.ensures.holding c.in_ok-held.ensures.seen c.in_ok-held.ensures.number is_page c.requires.key
+    c.requires.items c.requires.rows c.in-At.is c.requires.placing in
     stepped_after g.D.Disk c.args.frames.now c.hold_next.new.frames c.begin_again.new.frames c.args.pass.now
     c.hold_next.new.pass c.begin_again.new.pass c.hold_next.ensures.reads.works c.in_ok-held.ensures.fine c.args.key.now
-    c.args.items.now c.args.self.now c.begin_again.new.self c.begin_again.result
-    c.begin_again.ensures
+    c.args.items.now c.args.self.now c.begin_again.new.self c.begin_again.result (c.begin_again.ensures holds)
 
 pub returns-in-Ok-On : goal.returns-in-Ok-On
 returns-in-Ok-On g c =
