@@ -3,7 +3,7 @@ use buffer_frames::Ask;
 use core_state::State;
 
 /// How many records the log has.
-#[derive(Clone, Copy)]
+#[derive(Drop)]
 pub(crate) struct Length;
 
 impl Ask<u64> for Length {

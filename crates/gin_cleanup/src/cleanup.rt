@@ -11,11 +11,11 @@ ghost use Rattle.gin_cleanup.specs.Going.{IsCause};
 ghost use Rattle.gin_cleanup.specs.Inner.Noting.{IsReadNext, HasTaken, HasKept, EndsBefore, HasNoted};
 ghost use Rattle.gin_cleanup.specs.Inner.Between.{HasNext};
 
+use crate::first_page::hold_meta;
 use crate::gathered::Gathered;
-use crate::listed::{META_PAGE, are_documents, goes_on, items_of, named_by, rows_of};
+use crate::listed::{are_documents, goes_on, items_of, rows_of};
 use buffer_frames::{Frames, Pass};
-use core_maintenance::{fresh_rows_hold, placing_keeps};
-use core_state::pages_hold;
+use core_maintenance::placing_keeps;
 use disk_trait::Disk;
 use gin_place::{PlaceError, Placing, hold_seen, release};
 use page_types::{Page, Rows};
@@ -78,15 +78,9 @@ impl Cleanup {
         ensures fine { OnOk result (MetNoFault D.Disk frames.old frames.new) }
         ensures fault { IfErr result (λ e. FaultBy D.Disk frames.old frames.new e) }
     {
-        fresh_rows_hold();
         placing_keeps();
-        pages_hold();
-        let (meta, _) = hold_seen(frames, pass, META_PAGE)?;
-        let named = named_by(meta.page());
+        let (meta, names) = hold_meta(frames, pass)?;
         release(frames, pass, meta);
-        let Some(names) = named else {
-            return Err(PlaceError::BadPage { page: META_PAGE });
-        };
         Ok(Cleanup {
             left: names.pages,
             counts: Vec::new(alloc),
@@ -112,9 +106,9 @@ impl Cleanup {
         ensures taken { OnOk result (HasTaken rows.now right self.old self.new) }
         ensures kept { OnErr result (HasKept rows.now self.old self.new) }
     {
-        let before = items_of(alloc, rows)?;
         self.counts.reserve(1)?;
         self.gathered.put_rows(alloc, rows)?;
+        let before = items_of(alloc, rows)?;
         self.counts.push_reserved(rows.len());
         self.stage = Stage::Reading {
             page: right,
@@ -191,9 +185,7 @@ impl Cleanup {
         ensures fine { OnOk result (MetNoFault D.Disk frames.old frames.new) }
         ensures fault { IfErr result (λ e. FaultBy D.Disk frames.old frames.new e) }
     {
-        fresh_rows_hold();
         placing_keeps();
-        pages_hold();
         if self.has_read_all() {
             self.next_key();
             return Ok(());

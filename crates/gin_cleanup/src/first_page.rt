@@ -21,12 +21,9 @@ use crate::asks::Length;
 use crate::cleanup::{Cleanup, Stage};
 use crate::listed::{ListNames, META_PAGE, named_by, rows_of};
 use buffer_frames::{Frames, Held, Pass, Step};
-use core_maintenance::{
-    found_stays, fresh_rows_hold, moving_steps_hold, placing_keeps, shift_keeps,
-};
-use core_state::pages_hold;
+use core_maintenance::{moving_steps_hold, placing_keeps, shift_keeps};
 use disk_trait::Disk;
-use gin_place::{PlaceError, hold_page, hold_seen, release, two_step};
+use gin_place::{PlaceError, ask, hold_page, hold_seen, release, two_step};
 use page_types::{Body, Gone, Kind, Page, Rows};
 use std::alloc::{AllocError, Global};
 
@@ -48,7 +45,7 @@ pub(crate) enum Fate {
 }
 
 /// Holds the metapage; the pass has then seen all of the log. With it comes what it names.
-fn hold_meta<D: Disk>(
+pub(crate) fn hold_meta<D: Disk>(
     frames: &mut Frames<D>,
     pass: &mut Pass,
 ) -> Result<(Held, ListNames), PlaceError>
@@ -69,7 +66,6 @@ fn hold_meta<D: Disk>(
     ensures fine { OnOk result (MetNoFault D.Disk frames.old frames.new) }
     ensures fault { IfErr result (λ e. FaultBy D.Disk frames.old frames.new e) }
 {
-    pages_hold();
     let (held, _) = hold_seen(frames, pass, META_PAGE)?;
     match named_by(held.page()) {
         Some(names) => Ok((held, names)),
@@ -114,10 +110,7 @@ fn hold_first<D: Disk>(frames: &mut Frames<D>, pass: &mut Pass) -> Result<First,
     ensures fine { OnOk result (MetNoFault D.Disk frames.old frames.new) }
     ensures fault { IfErr result (λ e. FaultBy D.Disk frames.old frames.new e) }
 {
-    found_stays();
-    fresh_rows_hold();
     placing_keeps();
-    pages_hold();
     let (meta, names) = hold_meta(frames, pass)?;
     let page = match hold_page(frames, pass, names.first) {
         Ok(page) => page,
@@ -127,11 +120,11 @@ fn hold_first<D: Disk>(frames: &mut Frames<D>, pass: &mut Pass) -> Result<First,
         }
     };
     let first = First { meta, names, page };
-    match frames.look(pass, &Length) {
+    match ask(frames, pass, &Length) {
         Ok(_) => Ok(first),
         Err(error) => {
             give_back(frames, pass, first);
-            Err(PlaceError::from(error))
+            Err(error)
         }
     }
 }
@@ -227,11 +220,11 @@ fn log_shift<D: Disk>(
     ensures fine { OnOk result (MetNoFault D.Disk frames.old frames.new) }
     ensures fault { IfErr result (λ e. FaultBy D.Disk frames.old frames.new e) }
 {
-    let mut pages = Vec::new(alloc);
-    if pages.reserve(2).is_err() {
+    let Ok(mut pages) = Vec::with_capacity(alloc, 2) else {
         give_back(frames, pass, first);
+        drop(step);
         return Err(PlaceError::OutOfMemory);
-    }
+    };
     let First { meta, page, .. } = first;
     pages.push_reserved(page);
     pages.push_reserved(meta);
@@ -255,8 +248,6 @@ fn log_pages<D: Disk>(
     ensures fine { OnOk result (MetNoFault D.Disk frames.old frames.new) }
     ensures fault { IfErr result (λ e. FaultBy D.Disk frames.old frames.new e) }
 {
-    found_stays();
-    fresh_rows_hold();
     placing_keeps();
     shift_keeps();
     frames.log_step(pass, pages, step)?;
@@ -334,11 +325,9 @@ impl Cleanup {
         ensures fine { OnOk result (MetNoFault D.Disk frames.old frames.new) }
         ensures fault { IfErr result (λ e. FaultBy D.Disk frames.old frames.new e) }
     {
-        fresh_rows_hold();
         placing_keeps();
         shift_keeps();
         moving_steps_hold();
-        pages_hold();
         let first = hold_first(frames, pass)?;
         let (number, right) = (first.page.number(), first.page.page().right);
         match fate_of(alloc, &first, self.noted(), self.turns) {

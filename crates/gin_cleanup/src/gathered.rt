@@ -48,10 +48,8 @@ impl Gathered {
             items.push(item)?;
             return Ok(());
         }
-        let mut copy = Vec::new(alloc);
-        copy.extend_from_slice(key)?;
-        let mut items = Vec::new(alloc);
-        items.push(item)?;
+        let items = Vec::from_slice(alloc, &[item])?;
+        let copy = Vec::from_slice(alloc, key)?;
         self.keys.insert(copy, items)?;
         Ok(())
     }

@@ -11,11 +11,11 @@ ghost use Rattle.gin_cleanup.specs.Inner.Between.{IsKeyStage};
 
 use crate::cleanup::{Cleanup, Stage};
 use buffer_frames::{Frames, Pass};
-use core_maintenance::{fresh_rows_hold, placing_keeps};
+use core_maintenance::placing_keeps;
 use disk_trait::Disk;
+use gin_opclass::key_class;
 use gin_place::PlaceError;
 use std::alloc::Global;
-use ts_match::text_class;
 
 impl Cleanup {
     /// A step of the key that is placed; after its last one the next key is.
@@ -42,9 +42,8 @@ impl Cleanup {
         ensures fine { OnOk result (MetNoFault D.Disk frames.old frames.new) }
         ensures fault { IfErr result (λ e. FaultBy D.Disk frames.old frames.new e) }
     {
-        fresh_rows_hold();
         placing_keeps();
-        let class = text_class();
+        let class = key_class();
         let Stage::Placing {
             key,
             items,

@@ -1,12 +1,13 @@
-use Rattle.std.proofs.Common.{[], ◌∷◌, sym, subst, ◌∙◌}
+use Rattle.std.proofs.Common.{[], ◌∷◌, sym, subst}
 use Rattle.std.proofs.lemmas.Result.{err_from_is_err_and}
+use Rattle.core_maintenance.proofs.FreshRows.{fresh_holds}
+use Rattle.core_state.proofs.LawsHold.{pages as pages_told}
 use Rattle.buffer_frames.proofs.AtHand.{none_held}
 use Rattle.gin_place.specs.Causes.{CannotUse}
 use Rattle.gin_place.specs.Faults.{FaultBy}
 use Rattle.gin_place.specs.declared.error.PlaceError.{PlaceError}
-use Rattle.gin_place.proofs.Running.{calm_goes}
-use Rattle.gin_place.proofs.Carrying.{reads_by, reads_in_turn, right_on}
-use Rattle.gin_place.proofs.Causing.{at_exit, look_down}
+use Rattle.gin_place.proofs.Carrying.{reads_in_turn, right_on}
+use Rattle.gin_place.proofs.Causing.{at_exit}
 use Rattle.gin_place.proofs.Faults.{calm_then, calm_fine, fine_then, told_then, told_back, down_told}
 use Rattle.gin_cleanup.specs.Going.{IsBadList, IsCause}
 use Rattle.gin_cleanup.proofs.FirstHeld.{first_stays, first_bad, both_seen}
@@ -40,10 +41,10 @@ returns-in-Err-clause-cause g c =
       first_cause g.D.Disk c.hold_meta.new.frames c.hold_meta.new.pass c.in_ok-meta.names.first
           (first_bad g.D.Disk c.hold_meta.new.frames c.hold_meta.new.pass c.in_ok-meta.meta
           c.in_ok-meta.names.first c.in_ok-meta.names.last c.in_ok-meta.names.pages c.in_ok-meta.ensures.number
-          c.in_ok-meta.ensures.names c.pages_hold.ensures c.placing_keeps.ensures.right c.in_ok-meta.ensures.holding
+          c.in_ok-meta.ensures.names pages_told c.placing_keeps.ensures.right c.in_ok-meta.ensures.holding
           c.hold_meta.ensures.reads.works.is_pass (right_on g.D.Disk c.args.frames.now c.hold_meta.new.frames
           c.args.pass.now c.hold_meta.new.pass [] c.requires.right c.hold_meta.ensures.reads.works)
-          (first_stays g.D.Disk c.placing_keeps.ensures.line c.fresh_rows_hold.ensures.records
+          (first_stays g.D.Disk c.placing_keeps.ensures.line fresh_holds
           c.placing_keeps.ensures.pairs c.args.frames.now c.hold_meta.new.frames c.args.pass.now c.hold_meta.new.pass
           [] (none_held g.D.Disk c.args.frames.now c.args.pass.now c.requires.pass c.requires.none) c.requires.pass
           c.requires.right c.hold_meta.ensures.reads.works c.requires.some) c.in_ok-meta.ensures.seen)
@@ -53,37 +54,32 @@ returns-in-Err-clause-cause g c =
 pub give_back-requires-clause-holding : goal.give_back-requires-clause-holding
 give_back-requires-clause-holding g c =
     let h2 = c.in-Ok.ensures.holding (c.in_ok-meta.meta ∷ []) c.in_ok-meta.ensures.holding in
-    let h3 = c.look.ensures.holding (c.in-Ok.page ∷ c.in_ok-meta.meta ∷ []) h2 in
+    let h3 = c.ask.ensures.no_more.holding (c.in-Ok.page ∷ c.in_ok-meta.meta ∷ []) h2 in
     h3
 
-pub returns-in-Ok-look-clause-reads : goal.returns-in-Ok-look-clause-reads
-returns-in-Ok-look-clause-reads g c =
+pub returns-in-Ok-ask-clause-reads : goal.returns-in-Ok-ask-clause-reads
+returns-in-Ok-ask-clause-reads g c =
     let r2 = reads_in_turn g.D.Disk c.args.frames.now c.hold_meta.new.frames c.hold_page.new.frames c.args.pass.now
     c.hold_meta.new.pass c.hold_page.new.pass c.hold_meta.ensures.reads c.hold_page.ensures.reads in
-    let e = c.look.ensures in
-    let r3 = reads_in_turn g.D.Disk c.args.frames.now c.hold_page.new.frames c.look.new.self c.args.pass.now
-    c.hold_page.new.pass c.look.new.pass r2 (reads_by g.D.Disk c.found_stays.ensures.right c.hold_page.new.frames
-    c.look.new.self c.hold_page.new.pass c.look.new.pass r2.works.is_pass (right_on g.D.Disk c.args.frames.now
-    c.hold_page.new.frames c.args.pass.now c.hold_page.new.pass [] c.requires.right r2.works) e.added e.sees_on
-    e.rises e.pass e.keeps.pin e.keeps.room e.keeps.xid e.keeps.work e.pins
-    (calm_goes g.D.Disk e.calm e.state e.added e.runs_on e.begins)) in
+    let r3 = reads_in_turn g.D.Disk c.args.frames.now c.hold_page.new.frames c.ask.new.frames c.args.pass.now
+    c.hold_page.new.pass c.ask.new.pass r2 c.ask.ensures.reads in
     r3
 
-pub returns-in-Ok-look-clause-holds : goal.returns-in-Ok-look-clause-holds
-returns-in-Ok-look-clause-holds g c =
+pub returns-in-Ok-ask-clause-holds : goal.returns-in-Ok-ask-clause-holds
+returns-in-Ok-ask-clause-holds g c =
     let h2 = c.in-Ok.ensures.holding (c.in_ok-meta.meta ∷ []) c.in_ok-meta.ensures.holding in
-    let h3 = c.look.ensures.holding (c.in-Ok.page ∷ c.in_ok-meta.meta ∷ []) h2 in
+    let h3 = c.ask.ensures.no_more.holding (c.in-Ok.page ∷ c.in_ok-meta.meta ∷ []) h2 in
     record {
       holding = h3;
       meta_page = c.in_ok-meta.ensures.number;
       page_is = c.in-Ok.ensures.number;
       names = c.in_ok-meta.ensures.names;
-      seen = both_seen g.D.Disk c.look.new.self c.look.new.pass c.in-Ok.page c.in_ok-meta.meta h3
-          c.in-Ok-look.ensures.all c.in_ok-meta.ensures.number;
+      seen = both_seen g.D.Disk c.ask.new.frames c.ask.new.pass c.in-Ok.page c.in_ok-meta.meta h3
+          c.in-Ok-ask.ensures.all c.in_ok-meta.ensures.number;
     }
 
-pub returns-in-Ok-look-clause-bad : goal.returns-in-Ok-look-clause-bad
-returns-in-Ok-look-clause-bad g c =
+pub returns-in-Ok-ask-clause-bad : goal.returns-in-Ok-ask-clause-bad
+returns-in-Ok-ask-clause-bad g c =
     λ fits off. (
       c.hold_meta.new.frames,
       c.hold_meta.new.pass,
@@ -92,43 +88,37 @@ returns-in-Ok-look-clause-bad g c =
       subst (IsBadList g.D.Disk c.hold_meta.new.frames c.hold_meta.new.pass) (sym c.in-Ok.ensures.number)
           (first_bad g.D.Disk c.hold_meta.new.frames c.hold_meta.new.pass c.in_ok-meta.meta
           c.in_ok-meta.names.first c.in_ok-meta.names.last c.in_ok-meta.names.pages c.in_ok-meta.ensures.number
-          c.in_ok-meta.ensures.names c.pages_hold.ensures c.placing_keeps.ensures.right c.in_ok-meta.ensures.holding
+          c.in_ok-meta.ensures.names pages_told c.placing_keeps.ensures.right c.in_ok-meta.ensures.holding
           c.hold_meta.ensures.reads.works.is_pass (right_on g.D.Disk c.args.frames.now c.hold_meta.new.frames
           c.args.pass.now c.hold_meta.new.pass [] c.requires.right c.hold_meta.ensures.reads.works)
-          (first_stays g.D.Disk c.placing_keeps.ensures.line c.fresh_rows_hold.ensures.records
+          (first_stays g.D.Disk c.placing_keeps.ensures.line fresh_holds
           c.placing_keeps.ensures.pairs c.args.frames.now c.hold_meta.new.frames c.args.pass.now c.hold_meta.new.pass
           [] (none_held g.D.Disk c.args.frames.now c.args.pass.now c.requires.pass c.requires.none) c.requires.pass
           c.requires.right c.hold_meta.ensures.reads.works c.requires.some) c.in_ok-meta.ensures.seen
           (CannotUse.other c.in-Ok.page.content fits c.in-Ok.ensures.lies off)),
     )
 
-pub returns-in-Err-look-clause-reads : goal.returns-in-Err-look-clause-reads
-returns-in-Err-look-clause-reads g c =
+pub returns-in-Err-ask-clause-reads : goal.returns-in-Err-ask-clause-reads
+returns-in-Err-ask-clause-reads g c =
     let r2 = reads_in_turn g.D.Disk c.args.frames.now c.hold_meta.new.frames c.hold_page.new.frames c.args.pass.now
     c.hold_meta.new.pass c.hold_page.new.pass c.hold_meta.ensures.reads c.hold_page.ensures.reads in
-    let e = c.look.ensures in
-    let r3 = reads_in_turn g.D.Disk c.args.frames.now c.hold_page.new.frames c.look.new.self c.args.pass.now
-    c.hold_page.new.pass c.look.new.pass r2 (reads_by g.D.Disk c.found_stays.ensures.right c.hold_page.new.frames
-    c.look.new.self c.hold_page.new.pass c.look.new.pass r2.works.is_pass (right_on g.D.Disk c.args.frames.now
-    c.hold_page.new.frames c.args.pass.now c.hold_page.new.pass [] c.requires.right r2.works) e.added e.sees_on
-    e.rises e.pass e.keeps.pin e.keeps.room e.keeps.xid e.keeps.work e.pins
-    (calm_goes g.D.Disk e.calm e.state e.added e.runs_on e.begins)) in
-    reads_in_turn g.D.Disk c.args.frames.now c.look.new.self c.give_back.new.frames c.args.pass.now c.look.new.pass
+    let r3 = reads_in_turn g.D.Disk c.args.frames.now c.hold_page.new.frames c.ask.new.frames c.args.pass.now
+    c.hold_page.new.pass c.ask.new.pass r2 c.ask.ensures.reads in
+    reads_in_turn g.D.Disk c.args.frames.now c.ask.new.frames c.give_back.new.frames c.args.pass.now c.ask.new.pass
     c.give_back.new.pass r3 c.give_back.ensures.reads
 
-pub returns-in-Err-look-clause-cause : goal.returns-in-Err-look-clause-cause
-returns-in-Err-look-clause-cause g c =
+pub returns-in-Err-ask-clause-cause : goal.returns-in-Err-ask-clause-cause
+returns-in-Err-ask-clause-cause g c =
     let r2 = reads_in_turn g.D.Disk c.args.frames.now c.hold_meta.new.frames c.hold_page.new.frames c.args.pass.now
     c.hold_meta.new.pass c.hold_page.new.pass c.hold_meta.ensures.reads c.hold_page.ensures.reads in
-    let d = look_down g.D.Disk c.hold_page.new.frames c.look.result c.in-Err-look.error c.in-Err-look.is
-    c.look.ensures.is_down c.in-Err-look.ensures.error in (
+    let d = c.in-Err-ask.ensures.down in (
       c.hold_page.new.frames,
       c.hold_page.new.pass,
       r2.works,
       fine_then g.D.Disk c.args.frames.now c.hold_meta.new.frames c.hold_page.new.frames c.in_ok-meta.ensures.fine
           c.in-Ok.ensures.fine,
       subst (λ (x : PlaceError). IsCause g.D.Disk c.give_back.new.frames x c.hold_page.new.frames
-          c.hold_page.new.pass) (sym (c.from.ensures ∙ d.1)) d.2,
+          c.hold_page.new.pass) (sym d.1) d.2,
     )
 
 pub returns-in_err-meta-clause-fault : goal.returns-in_err-meta-clause-fault
@@ -144,19 +134,32 @@ returns-in-Err-clause-fault g c =
     (told_back g.D.Disk c.hold_meta.new.frames c.hold_page.new.frames c.release.new.frames c.in-Err.error
     c.in-Err.ensures.fault c.release.ensures.calm c.release.ensures.at_rest)
 
-pub returns-in-Ok-look-clause-fine : goal.returns-in-Ok-look-clause-fine
-returns-in-Ok-look-clause-fine g c =
-    fine_then g.D.Disk c.args.frames.now c.hold_page.new.frames c.look.new.self
+pub returns-in-Ok-ask-clause-fine : goal.returns-in-Ok-ask-clause-fine
+returns-in-Ok-ask-clause-fine g c =
+    fine_then g.D.Disk c.args.frames.now c.hold_page.new.frames c.ask.new.frames
     (fine_then g.D.Disk c.args.frames.now c.hold_meta.new.frames c.hold_page.new.frames c.in_ok-meta.ensures.fine
-    c.in-Ok.ensures.fine) (calm_fine g.D.Disk c.hold_page.new.frames c.look.new.self c.look.ensures.calm)
+    c.in-Ok.ensures.fine) (calm_fine g.D.Disk c.hold_page.new.frames c.ask.new.frames c.ask.ensures.calm)
 
-pub returns-in-Err-look-clause-fault : goal.returns-in-Err-look-clause-fault
-returns-in-Err-look-clause-fault g c =
-    let d = look_down g.D.Disk c.hold_page.new.frames c.look.result c.in-Err-look.error c.in-Err-look.is
-    c.look.ensures.is_down c.in-Err-look.ensures.error in
-    down_told g.D.Disk c.args.frames.now c.hold_page.new.frames c.give_back.new.frames c.from.result d.0
-    (c.from.ensures ∙ d.1)
+pub returns-in-Err-ask-clause-fault : goal.returns-in-Err-ask-clause-fault
+returns-in-Err-ask-clause-fault g c =
+    let d = c.in-Err-ask.ensures.down in
+    down_told g.D.Disk c.args.frames.now c.hold_page.new.frames c.give_back.new.frames c.in-Err-ask.error d.0 d.1
     (fine_then g.D.Disk c.args.frames.now c.hold_meta.new.frames c.hold_page.new.frames c.in_ok-meta.ensures.fine
     c.in-Ok.ensures.fine)
-    (calm_then g.D.Disk c.hold_page.new.frames c.look.new.self c.give_back.new.frames c.look.ensures.calm
+    (calm_then g.D.Disk c.hold_page.new.frames c.ask.new.frames c.give_back.new.frames c.ask.ensures.calm
     c.give_back.ensures.calm) d.2
+
+pub give_back-requires-clause-right : goal.give_back-requires-clause-right
+give_back-requires-clause-right g c =
+    let r2 = reads_in_turn g.D.Disk c.args.frames.now c.hold_meta.new.frames c.hold_page.new.frames c.args.pass.now
+    c.hold_meta.new.pass c.hold_page.new.pass c.hold_meta.ensures.reads c.hold_page.ensures.reads in
+    let r3 = reads_in_turn g.D.Disk c.args.frames.now c.hold_page.new.frames c.ask.new.frames c.args.pass.now
+    c.hold_page.new.pass c.ask.new.pass r2 c.ask.ensures.reads in
+    right_on g.D.Disk c.args.frames.now c.ask.new.frames c.args.pass.now c.ask.new.pass [] c.requires.right r3.works
+
+pub ask-requires-clause-right : goal.ask-requires-clause-right
+ask-requires-clause-right g c =
+    let r2 = reads_in_turn g.D.Disk c.args.frames.now c.hold_meta.new.frames c.hold_page.new.frames c.args.pass.now
+    c.hold_meta.new.pass c.hold_page.new.pass c.hold_meta.ensures.reads c.hold_page.ensures.reads in
+    right_on g.D.Disk c.args.frames.now c.hold_page.new.frames c.args.pass.now c.hold_page.new.pass [] c.requires.right
+    r2.works

@@ -3,6 +3,8 @@ use Rattle.std.proofs.lemmas.Result.{err_from_is_err_and}
 use Rattle.page_types.specs.Records.{kind_number}
 use Rattle.page_types.specs.declared.record.Kind.{Kind}
 use Rattle.page_types.specs.declared.record.Kind.TheVariants as kind
+use Rattle.core_maintenance.proofs.FreshRows.{fresh_holds}
+use Rattle.core_maintenance.proofs.Found.{right_keeps_found}
 use Rattle.buffer_frames.specs.Opens.{IsEarlyKind, IsLoggedKind}
 use Rattle.buffer_frames.specs.Passes.{HasAdded, xid_after}
 use Rattle.buffer_frames.proofs.Exits.{on_refusal}
@@ -30,7 +32,7 @@ returns-in_err-log_step-clause-refused g c =
     let e = c.log_step.ensures in
     let f = c.in_err-log_step.ensures in
     on_refusal _ c.from_residual.result
-    (reads_by g.D.Disk c.found_stays.ensures.right c.args.frames.now c.log_step.new.self c.args.pass.now
+    (reads_by g.D.Disk right_keeps_found c.args.frames.now c.log_step.new.self c.args.pass.now
     c.log_step.new.pass c.requires.is_pass c.requires.right f.refused f.refused_sees_on e.rises e.pass e.same.0 e.same.1
     f.refused_xid e.work e.pins
     (refused_goes g.D.Disk c.log_step.result e.cause f.refused_state f.refused e.runs_on f.refused_begins))
@@ -53,7 +55,7 @@ returns-clause-logged g c =
     c.requires.kind_is f.xid in
     shift_logs g.D.Disk c.args.frames.now c.log_step.new.self c.args.pass.now c.log_step.new.pass c.args.pages.items
     c.args.step c.requires added f.seen f.all c.placing_keeps.ensures.pairs c.shift_keeps.ensures
-    c.placing_keeps.ensures.history c.placing_keeps.ensures.line c.fresh_rows_hold.ensures.records e.rises e.pass
+    c.placing_keeps.ensures.history c.placing_keeps.ensures.line fresh_holds e.rises e.pass
     e.same.0 e.same.1 xid e.work e.pins
     (subst (λ (n : ℕ). StoreGoesOn g.D.Disk c.args.frames.now c.log_step.new.self (n ∷ [])) number
     (logged_goes g.D.Disk c.args.frames.now c.log_step.new.self c.args.step c.log_step.result (omega (arith, number))

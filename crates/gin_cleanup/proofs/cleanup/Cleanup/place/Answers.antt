@@ -1,12 +1,14 @@
-use Rattle.std.proofs.Common.{ℕ, List, [], sym, subst}
+use Rattle.std.proofs.Common.{◌≤◌, ℕ, List, [], length, sym, subst}
 use Rattle.std.proofs.lemmas.Result.{err_from_is_err_and}
+use Rattle.core_maintenance.proofs.FreshRows.{fresh_holds}
 use Rattle.buffer_frames.proofs.Exits.{on_refusal}
 use Rattle.gin_place.specs.Causes.{Finds}
-use Rattle.gin_place.specs.Faults.{FaultBy}
+use Rattle.gin_place.specs.Faults.{MetNoFault, FaultBy}
 use Rattle.gin_place.specs.Placing.{ArePending, IsPlacing}
 use Rattle.gin_place.proofs.Causing.{at_exit}
+use Rattle.gin_place.proofs.Exits.{no_ok}
 use Rattle.gin_cleanup.specs.Cleaning.{IsKeyAt}
-use Rattle.gin_cleanup.specs.Going.{IsCause}
+use Rattle.gin_cleanup.specs.Going.{CleansOn, IsCause}
 use Rattle.gin_cleanup.proofs.Cleaned.{cleans_by}
 use Rattle.gin_cleanup.proofs.KeyPlaces.{rows_pending, step_on, next_on, step_cause}
 use Rattle.gin_cleanup.proofs.Nearer.{next_placed, by_kinds, by_step}
@@ -34,7 +36,7 @@ step-requires-clause-placing g c =
 pub returns-in_err-more-clause-cleaning : goal.returns-in_err-more-clause-cleaning
 returns-in_err-more-clause-cleaning g c =
     let k = c.in-Placing in
-    step_on g.D.Disk c.placing_keeps.ensures.line c.fresh_rows_hold.ensures.records c.placing_keeps.ensures.pairs
+    step_on g.D.Disk c.placing_keeps.ensures.line fresh_holds c.placing_keeps.ensures.pairs
     c.args.frames.now c.step.new.frames c.args.pass.now c.step.new.pass c.requires.pass c.requires.right
     c.requires.none c.args.self.now k.key k.items k.placing c.step.new.self k.is c.as_slice.result.now
     c.as_slice-2.result.now c.as_slice.ensures.value c.as_slice-2.ensures.value c.step.result c.step.ensures
@@ -58,7 +60,7 @@ returns-in_err-more-clause-cause g c =
     let w = c.in_err-more.field-0.0 in
     at_exit (λ x. Finds g.D.Disk c.args.frames.now c.args.pass.now
     (IsCause g.D.Disk c.step.new.frames x)) c.from_residual.result r.0 w r.1 r.2
-    (step_cause g.D.Disk c.placing_keeps.ensures.line c.fresh_rows_hold.ensures.records c.placing_keeps.ensures.pairs
+    (step_cause g.D.Disk c.placing_keeps.ensures.line fresh_holds c.placing_keeps.ensures.pairs
     c.args.frames.now c.step.new.frames c.args.pass.now c.step.new.pass c.requires.pass c.requires.right
     c.requires.none c.args.self.now k.key k.items k.placing c.step.new.self k.is c.as_slice.result.now
     c.as_slice-2.result.now c.as_slice.ensures.value c.as_slice-2.ensures.value c.step.result c.step.ensures
@@ -67,7 +69,7 @@ returns-in_err-more-clause-cause g c =
 pub returns-then-not-more-clause-cleaning : goal.returns-then-not-more-clause-cleaning
 returns-then-not-more-clause-cleaning g c =
     let k = c.in-Placing in
-    next_on g.D.Disk c.placing_keeps.ensures.line c.fresh_rows_hold.ensures.records c.placing_keeps.ensures.pairs
+    next_on g.D.Disk c.placing_keeps.ensures.line fresh_holds c.placing_keeps.ensures.pairs
     c.args.frames.now c.step.new.frames c.args.pass.now c.step.new.pass c.requires.pass c.requires.right
     c.requires.none c.args.self.now k.key k.items k.placing c.step.new.self k.is c.as_slice.result.now
     c.as_slice-2.result.now c.as_slice.ensures.value c.as_slice-2.ensures.value c.step.result c.step.ensures
@@ -95,7 +97,7 @@ returns-then-not-more-clause-fine g c = c.in_ok-more.ensures.fine
 pub returns-else-not-more-clause-cleaning : goal.returns-else-not-more-clause-cleaning
 returns-else-not-more-clause-cleaning g c =
     let k = c.in-Placing in
-    step_on g.D.Disk c.placing_keeps.ensures.line c.fresh_rows_hold.ensures.records c.placing_keeps.ensures.pairs
+    step_on g.D.Disk c.placing_keeps.ensures.line fresh_holds c.placing_keeps.ensures.pairs
     c.args.frames.now c.step.new.frames c.args.pass.now c.step.new.pass c.requires.pass c.requires.right
     c.requires.none c.args.self.now k.key k.items k.placing c.step.new.self k.is c.as_slice.result.now
     c.as_slice-2.result.now c.as_slice.ensures.value c.as_slice-2.ensures.value c.step.result c.step.ensures
@@ -117,3 +119,17 @@ returns-else-not-more-clause-lower g c =
 
 pub returns-else-not-more-clause-fine : goal.returns-else-not-more-clause-fine
 returns-else-not-more-clause-fine g c = c.in_ok-more.ensures.fine
+
+pub returns-in_err-more-clause-none_held : goal.returns-in_err-more-clause-none_held
+returns-in_err-more-clause-none_held g c = c.in_err-more.ensures.none_held
+
+pub returns-in_err-more-clause-works : goal.returns-in_err-more-clause-works
+returns-in_err-more-clause-works g c =
+    let p = err_from_is_err_and c.from_residual.result c.from_residual.ensures.1 in
+    no_ok c.from_residual.result p.0 ((kinds : List ℕ) × (length kinds ≤ 1)
+    × CleansOn g.D.Disk c.args.frames.now c.args.pass.now c.step.new.frames c.step.new.pass kinds) p.1
+
+pub returns-in_err-more-clause-fine : goal.returns-in_err-more-clause-fine
+returns-in_err-more-clause-fine g c =
+    let p = err_from_is_err_and c.from_residual.result c.from_residual.ensures.1 in
+    no_ok c.from_residual.result p.0 (MetNoFault g.D.Disk c.args.frames.now c.step.new.frames) p.1

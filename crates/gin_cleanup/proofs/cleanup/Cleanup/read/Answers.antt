@@ -1,13 +1,15 @@
 use Rattle.std.proofs.Common.{◌<◌, [], length, refl, sym, ap, subst, ◌∙◌, Err}
 use Rattle.std.proofs.lemmas.Result.{err_from_is_err_and}
+use Rattle.core_maintenance.proofs.FreshRows.{fresh_holds}
+use Rattle.core_state.proofs.LawsHold.{pages as pages_told}
 use Rattle.buffer_frames.specs.Frames.{Lies}
 use Rattle.buffer_frames.proofs.AtHand.{none_held}
 use Rattle.gin_place.specs.Causes.{Finds, CannotUse}
-use Rattle.gin_place.specs.Faults.{FaultBy}
+use Rattle.gin_place.specs.Faults.{MetNoFault, FaultBy}
 use Rattle.gin_place.proofs.Carrying.{reads_in_turn, right_on, reads_still, same_added}
 use Rattle.gin_place.proofs.Causing.{at_exit}
 use Rattle.gin_place.proofs.Faults.{calm_fine, fine_still, fine_then}
-use Rattle.gin_place.proofs.Exits.{on_ok}
+use Rattle.gin_place.proofs.Exits.{on_ok, no_ok}
 use Rattle.gin_cleanup.specs.Going.{IsCause}
 use Rattle.gin_cleanup.specs.Measure.{steps_of, ComesNearer}
 use Rattle.gin_cleanup.proofs.BadRows.{bad_rows}
@@ -39,7 +41,7 @@ release-requires-clause-holding g c = ([], c.in_ok-held.ensures.holding)
 
 pub returns-in_err-held-clause-cleaning : goal.returns-in_err-held-clause-cleaning
 returns-in_err-held-clause-cleaning g c = λ from was.
-    cleaning_still g.D.Disk c.placing_keeps.ensures.line c.fresh_rows_hold.ensures.records c.placing_keeps.ensures.pairs
+    cleaning_still g.D.Disk c.placing_keeps.ensures.line fresh_holds c.placing_keeps.ensures.pairs
     c.args.frames.now c.hold_seen.new.frames c.args.pass.now c.hold_seen.new.pass []
     (none_held g.D.Disk c.args.frames.now c.args.pass.now c.requires.pass c.requires.none) c.requires.pass
     c.requires.right c.hold_seen.ensures.reads from c.args.self.now was
@@ -52,7 +54,7 @@ returns-in_err-held-clause-cause g c =
     c.has_read_all.ensures c.if-has_read_all.false in
     let r = err_from_is_err_and c.from_residual.result c.from_residual.ensures.1 in
     let w = c.in_err-held.field-0.0 in
-    let bad = bad_rows g.D.Disk c.pages_hold.ensures c.placing_keeps.ensures.right f p []
+    let bad = bad_rows g.D.Disk pages_told c.placing_keeps.ensures.right f p []
     (none_held g.D.Disk f p c.requires.pass c.requires.none) c.requires.pass c.requires.right c.args.page
     (on_list g.D.Disk f p c.requires.cleaning.0 c.args.self.now c.args.page c.requires.next.0 c.requires.next.1 few
     c.requires.cleaning.1) in
@@ -65,8 +67,8 @@ pub returns-clause-cleaning : goal.returns-clause-cleaning
 returns-clause-cleaning g c = λ from was.
     let few = few_read (length c.args.self.now.counts.items) c.args.self.now.left c.has_read_all.result
     c.has_read_all.ensures c.if-has_read_all.false in
-    read_noted g.D.Disk c.placing_keeps.ensures.line c.fresh_rows_hold.ensures.records c.placing_keeps.ensures.pairs
-    c.pages_hold.ensures c.args.frames.now c.hold_seen.new.frames c.release.new.frames c.args.pass.now
+    read_noted g.D.Disk c.placing_keeps.ensures.line fresh_holds c.placing_keeps.ensures.pairs
+    pages_told c.args.frames.now c.hold_seen.new.frames c.release.new.frames c.args.pass.now
     c.hold_seen.new.pass c.release.new.pass c.in_ok-held.held c.requires.pass c.requires.right c.requires.none
     c.hold_seen.ensures.reads c.in_ok-held.ensures.holding c.release.ensures.reads c.args.page
     c.in_ok-held.ensures.number c.in_ok-held.ensures.seen c.page.result.now c.page.ensures.value c.page.ensures.is_page
@@ -102,7 +104,7 @@ returns-clause-cause g c =
     let p = c.args.pass.now in
     let few = few_read (length c.args.self.now.counts.items) c.args.self.now.left c.has_read_all.result
     c.has_read_all.ensures c.if-has_read_all.false in
-    let bad = bad_rows g.D.Disk c.pages_hold.ensures c.placing_keeps.ensures.right f p []
+    let bad = bad_rows g.D.Disk pages_told c.placing_keeps.ensures.right f p []
     (none_held g.D.Disk f p c.requires.pass c.requires.none) c.requires.pass c.requires.right c.args.page
     (on_list g.D.Disk f p c.requires.cleaning.0 c.args.self.now c.args.page c.requires.next.0 c.requires.next.1 few
     c.requires.cleaning.1) in
@@ -119,8 +121,8 @@ returns-clause-fine g c =
 
 pub returns-clause-fault : goal.returns-clause-fault
 returns-clause-fault g c =
-    noted_told g.D.Disk c.args.frames.now c.release.new.frames c.args.pass.now c.args.page c.page.result.now c.args.self.now
-    c.note-noted.new.self
+    noted_told g.D.Disk c.args.frames.now c.release.new.frames c.args.pass.now c.args.page c.page.result.now
+    c.args.self.now c.note-noted.new.self
     (fine_then g.D.Disk c.args.frames.now c.hold_seen.new.frames c.release.new.frames c.in_ok-held.ensures.fine
     (calm_fine g.D.Disk c.hold_seen.new.frames c.release.new.frames c.release.ensures.calm)) c.note-noted.result
     c.note-noted.ensures
@@ -138,3 +140,17 @@ returns-in_err-held-clause-fault g c =
     let r = err_from_is_err_and c.from_residual.result c.from_residual.ensures.1 in
     at_exit (λ x. FaultBy g.D.Disk c.args.frames.now c.hold_seen.new.frames x) c.from_residual.result r.0
     c.in_err-held.field-0.0 r.1 r.2 c.in_err-held.ensures.fault
+
+pub returns-in_err-held-clause-none_held : goal.returns-in_err-held-clause-none_held
+returns-in_err-held-clause-none_held g c = c.in_err-held.ensures.still
+
+pub returns-in_err-held-clause-lower : goal.returns-in_err-held-clause-lower
+returns-in_err-held-clause-lower g c =
+    let p = err_from_is_err_and c.from_residual.result c.from_residual.ensures.1 in
+    no_ok c.from_residual.result p.0
+    (ComesNearer c.args.frames.now c.hold_seen.new.frames c.args.self.now c.args.self.now) p.1
+
+pub returns-in_err-held-clause-fine : goal.returns-in_err-held-clause-fine
+returns-in_err-held-clause-fine g c =
+    let p = err_from_is_err_and c.from_residual.result c.from_residual.ensures.1 in
+    no_ok c.from_residual.result p.0 (MetNoFault g.D.Disk c.args.frames.now c.hold_seen.new.frames) p.1

@@ -1,15 +1,19 @@
-use Rattle.std.proofs.Common.{[], ◌∷◌, inl, subst, arith, ap}
+use Rattle.std.proofs.Common.{◌≤◌, ℕ, List, [], ◌∷◌, length, inl, subst, arith, ap}
 use Rattle.std.proofs.lemmas.Result.{err_from_is_err_and}
 use Rattle.page_types.specs.Pages.{IsPage}
 use Rattle.page_types.specs.declared.page.Page.{Page}
+use Rattle.core_maintenance.proofs.FreshRows.{fresh_holds}
+use Rattle.core_state.proofs.LawsHold.{pages as pages_told}
 use Rattle.buffer_frames.proofs.AtHand.{none_held}
 use Rattle.buffer_frames.proofs.Exits.{on_refusal}
 use Rattle.gin_place.specs.Causes.{Finds}
-use Rattle.gin_place.specs.Faults.{FaultBy}
+use Rattle.gin_place.specs.Faults.{MetNoFault, FaultBy}
 use Rattle.gin_place.proofs.Carrying.{reads_in_turn, right_on}
 use Rattle.gin_place.proofs.Causing.{at_exit}
+use Rattle.gin_place.proofs.Exits.{no_ok}
 use Rattle.gin_place.proofs.Faults.{calm_fine, fine_then, told_then}
-use Rattle.gin_cleanup.specs.Going.{IsCause}
+use Rattle.gin_cleanup.specs.Going.{CleansOn, IsCause}
+use Rattle.gin_cleanup.specs.Measure.{ComesNearer}
 use Rattle.gin_cleanup.specs.Inner.Shifting.{IsFate}
 use Rattle.gin_cleanup.proofs.Cleaned.{cleans_by, cleans_after}
 use Rattle.gin_cleanup.proofs.Cleanings.{cleaning_still}
@@ -32,7 +36,7 @@ noted-requires g c =
 
 pub returns-in_err-first-clause-cleaning : goal.returns-in_err-first-clause-cleaning
 returns-in_err-first-clause-cleaning g c =
-    λ from was. let y = cleaning_still g.D.Disk c.placing_keeps.ensures.line c.fresh_rows_hold.ensures.records
+    λ from was. let y = cleaning_still g.D.Disk c.placing_keeps.ensures.line fresh_holds
     c.placing_keeps.ensures.pairs c.args.frames.now c.hold_first.new.frames c.args.pass.now c.hold_first.new.pass []
     (none_held g.D.Disk c.args.frames.now c.args.pass.now c.requires.pass c.requires.none) c.requires.pass
     c.requires.right c.hold_first.ensures.reads from c.args.self.now was in
@@ -50,11 +54,11 @@ log_shift-requires g c =
     let fate = fate_gone c.in_ok-first.first.meta c.in_ok-first.first.page c.noted.result c.args.self.now.turns
     c.in-Ok-Gone.step (subst (IsFate c.in_ok-first.first.meta c.in_ok-first.first.page c.noted.result
     c.args.self.now.turns) c.in-Ok-Gone.field-0-is c.in-Ok-Gone.ensures.fate) in
-    let y = cleaning_still g.D.Disk c.placing_keeps.ensures.line c.fresh_rows_hold.ensures.records
+    let y = cleaning_still g.D.Disk c.placing_keeps.ensures.line fresh_holds
     c.placing_keeps.ensures.pairs c.args.frames.now c.hold_first.new.frames c.args.pass.now c.hold_first.new.pass []
     (none_held g.D.Disk c.args.frames.now c.args.pass.now c.requires.pass c.requires.none) c.requires.pass
     c.requires.right c.hold_first.ensures.reads c.requires.cleaning.0 c.args.self.now c.requires.cleaning.1 in
-    let may = may_shift g.D.Disk c.pages_hold.ensures c.hold_first.new.frames c.hold_first.new.pass
+    let may = may_shift g.D.Disk pages_told c.hold_first.new.frames c.hold_first.new.pass
     c.in_ok-first.first c.in-Ok-Gone.step c.in_ok-first.ensures.holds c.hold_first.ensures.reads.works.is_pass
     (right_on g.D.Disk c.args.frames.now c.hold_first.new.frames c.args.pass.now c.hold_first.new.pass
     [] c.requires.right c.hold_first.ensures.reads.works) fate.1 c.args.self.now.left c.noted.result _
@@ -67,7 +71,7 @@ returns-in_err-log_shift-in-Ok-Gone-clause-cleaning g c =
     λ from was. let r = reads_in_turn g.D.Disk c.args.frames.now c.hold_first.new.frames c.log_shift.new.frames
     c.args.pass.now c.hold_first.new.pass c.log_shift.new.pass c.hold_first.ensures.reads
     c.in_err-log_shift-in-Ok-Gone.ensures.refused in
-    cleaning_still g.D.Disk c.placing_keeps.ensures.line c.fresh_rows_hold.ensures.records
+    cleaning_still g.D.Disk c.placing_keeps.ensures.line fresh_holds
     c.placing_keeps.ensures.pairs c.args.frames.now c.log_shift.new.frames c.args.pass.now c.log_shift.new.pass []
     (none_held g.D.Disk c.args.frames.now c.args.pass.now c.requires.pass c.requires.none) c.requires.pass
     c.requires.right r from c.args.self.now was
@@ -96,18 +100,18 @@ returns-in_ok-log_shift-in-Ok-Gone-clause-cleaning g c =
     λ from was. let fate = fate_gone c.in_ok-first.first.meta c.in_ok-first.first.page c.noted.result
     c.args.self.now.turns c.in-Ok-Gone.step (subst (IsFate c.in_ok-first.first.meta c.in_ok-first.first.page
     c.noted.result c.args.self.now.turns) c.in-Ok-Gone.field-0-is c.in-Ok-Gone.ensures.fate) in
-    let y = cleaning_still g.D.Disk c.placing_keeps.ensures.line c.fresh_rows_hold.ensures.records
+    let y = cleaning_still g.D.Disk c.placing_keeps.ensures.line fresh_holds
     c.placing_keeps.ensures.pairs c.args.frames.now c.hold_first.new.frames c.args.pass.now c.hold_first.new.pass []
     (none_held g.D.Disk c.args.frames.now c.args.pass.now c.requires.pass c.requires.none) c.requires.pass
     c.requires.right c.hold_first.ensures.reads from c.args.self.now was in
-    let may = may_shift g.D.Disk c.pages_hold.ensures c.hold_first.new.frames c.hold_first.new.pass
+    let may = may_shift g.D.Disk pages_told c.hold_first.new.frames c.hold_first.new.pass
     c.in_ok-first.first c.in-Ok-Gone.step c.in_ok-first.ensures.holds c.hold_first.ensures.reads.works.is_pass
     (right_on g.D.Disk c.args.frames.now c.hold_first.new.frames c.args.pass.now c.hold_first.new.pass
     [] c.requires.right c.hold_first.ensures.reads.works) fate.1 c.args.self.now.left c.noted.result _
     (first_batch g.D.Disk c.hold_first.new.frames c.hold_first.new.pass from c.args.self.now c.requires.stage y
     c.noted.result c.noted.ensures) fate.0 c.moving_steps_hold.ensures.shift in
     shifts g.D.Disk c.hold_first.new.frames c.hold_first.new.pass from c.args.self.now c.requires.stage
-    y c.placing_keeps.ensures.line c.fresh_rows_hold.ensures.records c.placing_keeps.ensures.pairs
+    y c.placing_keeps.ensures.line fresh_holds c.placing_keeps.ensures.pairs
     c.shift_keeps.ensures c.log_shift.new.frames c.log_shift.new.pass c.in_ok-first.first
     c.in_ok-first.ensures.holds c.in-Ok-Gone.step may c.in_ok-log_shift-in-Ok-Gone.ensures.logged
     fate.1 c.requires.left c.noted.result c.noted.ensures c.page_gone.new.self c.page.result.now.right
@@ -133,14 +137,14 @@ give_back-requires-clause-holding g c =
 
 pub returns-in-Ok-Grown-clause-cleaning : goal.returns-in-Ok-Grown-clause-cleaning
 returns-in-Ok-Grown-clause-cleaning g c =
-    λ from was. let y = cleaning_still g.D.Disk c.placing_keeps.ensures.line c.fresh_rows_hold.ensures.records
+    λ from was. let y = cleaning_still g.D.Disk c.placing_keeps.ensures.line fresh_holds
     c.placing_keeps.ensures.pairs c.args.frames.now c.hold_first.new.frames c.args.pass.now c.hold_first.new.pass []
     (none_held g.D.Disk c.args.frames.now c.args.pass.now c.requires.pass c.requires.none) c.requires.pass
     c.requires.right c.hold_first.ensures.reads from c.args.self.now was in
     let z = read_again g.D.Disk c.hold_first.new.frames c.hold_first.new.pass from c.args.self.now c.requires.stage
     y c.in_ok-first.first c.in_ok-first.ensures.holds c.read_again.new.self c.number-number.result
     c.number-number.ensures.value c.read_again.ensures in
-    cleaning_still g.D.Disk c.placing_keeps.ensures.line c.fresh_rows_hold.ensures.records c.placing_keeps.ensures.pairs
+    cleaning_still g.D.Disk c.placing_keeps.ensures.line fresh_holds c.placing_keeps.ensures.pairs
     c.hold_first.new.frames c.give_back.new.frames c.hold_first.new.pass c.give_back.new.pass
     (c.in_ok-first.first.page ∷ c.in_ok-first.first.meta ∷ [])
     c.in_ok-first.ensures.holds.holding c.hold_first.ensures.reads.works.is_pass
@@ -171,7 +175,7 @@ returns-in-Err-clause-cleaning g c =
     λ from was. let r =
     reads_in_turn g.D.Disk c.args.frames.now c.hold_first.new.frames c.give_back-in-Err.new.frames c.args.pass.now
     c.hold_first.new.pass c.give_back-in-Err.new.pass c.hold_first.ensures.reads c.give_back-in-Err.ensures.reads in
-    cleaning_still g.D.Disk c.placing_keeps.ensures.line c.fresh_rows_hold.ensures.records c.placing_keeps.ensures.pairs
+    cleaning_still g.D.Disk c.placing_keeps.ensures.line fresh_holds c.placing_keeps.ensures.pairs
     c.args.frames.now c.give_back-in-Err.new.frames c.args.pass.now c.give_back-in-Err.new.pass []
     (none_held g.D.Disk c.args.frames.now c.args.pass.now c.requires.pass c.requires.none) c.requires.pass
     c.requires.right r from c.args.self.now was
@@ -266,3 +270,47 @@ returns-in-Err-clause-cause g c =
     let fits = subst IsPage c.page.ensures.value c.page.ensures.is_page in
     no_fate_cause g.D.Disk c.args.frames.now c.give_back-in-Err.new.frames c.args.pass.now c.in_ok-first.first.page
     c.in-Err.error c.requires.pass c.in-Err.ensures.none (c.in_ok-first.ensures.bad fits)
+
+pub returns-in_err-first-clause-none_held : goal.returns-in_err-first-clause-none_held
+returns-in_err-first-clause-none_held g c = c.in_err-first.ensures.still
+
+pub returns-in_err-first-clause-works : goal.returns-in_err-first-clause-works
+returns-in_err-first-clause-works g c =
+    let r = c.from_residual in
+    let p = err_from_is_err_and r.result r.ensures.1 in
+    no_ok r.result p.0 ((kinds : List ℕ) × (length kinds ≤ 1) × CleansOn g.D.Disk c.args.frames.now c.args.pass.now
+    c.hold_first.new.frames c.hold_first.new.pass kinds) p.1
+
+pub returns-in_err-first-clause-lower : goal.returns-in_err-first-clause-lower
+returns-in_err-first-clause-lower g c =
+    let r = c.from_residual in
+    let p = err_from_is_err_and r.result r.ensures.1 in
+    no_ok r.result p.0 (ComesNearer c.args.frames.now c.hold_first.new.frames c.args.self.now c.args.self.now) p.1
+
+pub returns-in_err-first-clause-fine : goal.returns-in_err-first-clause-fine
+returns-in_err-first-clause-fine g c =
+    let r = c.from_residual in
+    let p = err_from_is_err_and r.result r.ensures.1 in
+    no_ok r.result p.0 (MetNoFault g.D.Disk c.args.frames.now c.hold_first.new.frames) p.1
+
+pub returns-in_err-log_shift-in-Ok-Gone-clause-none_held : goal.returns-in_err-log_shift-in-Ok-Gone-clause-none_held
+returns-in_err-log_shift-in-Ok-Gone-clause-none_held g c = c.log_shift.ensures.none_held
+
+pub returns-in_err-log_shift-in-Ok-Gone-clause-works : goal.returns-in_err-log_shift-in-Ok-Gone-clause-works
+returns-in_err-log_shift-in-Ok-Gone-clause-works g c =
+    let r = c.from_residual-in_err-log_shift-in-Ok-Gone in
+    let p = err_from_is_err_and r.result r.ensures.1 in
+    no_ok r.result p.0 ((kinds : List ℕ) × (length kinds ≤ 1) × CleansOn g.D.Disk c.args.frames.now c.args.pass.now
+    c.log_shift.new.frames c.log_shift.new.pass kinds) p.1
+
+pub returns-in_err-log_shift-in-Ok-Gone-clause-lower : goal.returns-in_err-log_shift-in-Ok-Gone-clause-lower
+returns-in_err-log_shift-in-Ok-Gone-clause-lower g c =
+    let r = c.from_residual-in_err-log_shift-in-Ok-Gone in
+    let p = err_from_is_err_and r.result r.ensures.1 in
+    no_ok r.result p.0 (ComesNearer c.args.frames.now c.log_shift.new.frames c.args.self.now c.args.self.now) p.1
+
+pub returns-in_err-log_shift-in-Ok-Gone-clause-fine : goal.returns-in_err-log_shift-in-Ok-Gone-clause-fine
+returns-in_err-log_shift-in-Ok-Gone-clause-fine g c =
+    let r = c.from_residual-in_err-log_shift-in-Ok-Gone in
+    let p = err_from_is_err_and r.result r.ensures.1 in
+    no_ok r.result p.0 (MetNoFault g.D.Disk c.args.frames.now c.log_shift.new.frames) p.1

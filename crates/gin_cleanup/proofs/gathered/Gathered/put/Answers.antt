@@ -76,14 +76,12 @@ pub returns-clause-ok : goal.returns-clause-ok
 returns-clause-ok c =
     let key = c.args.key.now in
     let item = c.args.item in
-    let copy = c.extend_from_slice.new.self in
-    let new = c.push-2.new.self in
+    let copy = c.in_ok-copy.copy in
+    let new = c.in_ok-items.items in
     let cmp = λ (x y : Vec ℕ Global). slice_cmp nat_cmp x.items y.items in
     let es = c.self.inside.keys.entries in
-    let copy_is : copy.items ≡ key =
-    c.in_ok-extend_from_slice.ensures.items ∙ ap (λ (xs : List ℕ). xs ++ key) c.new-copy.ensures.items in
-    let new_is : new.items ≡ item ∷ [] =
-    c.in_ok-push-2.ensures.items ∙ ap (λ (xs : List ℕ). xs ++ item ∷ []) c.new-items.ensures.items in
+    let copy_is : copy.items ≡ key = c.in_ok-copy.ensures.items in
+    let new_is : new.items ≡ item ∷ [] = c.in_ok-items.ensures.items in
     let same = ap (λ m. m.entries) c.get_mut.follows.holds-at-none in
     let none : lookup (λ (x : Vec ℕ Global). is_eq (cmp copy x)) es ≡ None =
     subst (λ (z : Key). lookup (λ (x : Vec ℕ Global). is_eq (slice_cmp nat_cmp z x.items)) es ≡ None) (sym copy_is)
@@ -126,12 +124,11 @@ invariant_of-self-in-Some c =
 pub invariant_of-self-2 : goal.invariant_of-self-2
 invariant_of-self-2 c =
     let cmp = λ (x y : Vec ℕ Global). slice_cmp nat_cmp x.items y.items in
-    let copy = c.extend_from_slice.new.self in
-    let new = c.push-2.new.self in
+    let copy = c.in_ok-copy.copy in
+    let new = c.in_ok-items.items in
     let es = c.self.inside.keys.entries in
-    let more : new.items ≡ c.new-items.result.items ++ c.args.item ∷ [] = c.in_ok-push-2.ensures.items in
-    let some : new.items ≢ [] = subst (λ (xs : List ℕ). xs ≢ []) (sym more)
-    (more_some c.new-items.result.items c.args.item) in
+    let new_is : new.items ≡ c.args.item ∷ [] = c.in_ok-items.ensures.items in
+    let some : new.items ≢ [] = subst (λ (xs : List ℕ). xs ≢ []) (sym new_is) (more_some [] c.args.item) in
     let same = ap (λ m. m.entries) c.get_mut.follows.holds-at-none in
     let entries : c.insert.new.self.entries ≡ insert_entry cmp es copy new =
     c.in_ok-insert.ensures.entries ∙ ap (λ x. insert_entry cmp x copy new) same in
