@@ -2,7 +2,6 @@
 use Rattle.std.proofs.Common.{◌≤◌, ℕ, List, [], ◌++◌, sym, subst, ◌∙◌, append-nil}
 use Rattle.disk_trait.specs.declared.device.Disk.{Ghosts as Disk}
 use Rattle.page_types.specs.Numbers.{page_limit}
-use Rattle.core_maintenance.specs.Keeping.{HistoryHolds}
 use Rattle.buffer_frames.specs.Frames.{FramesValue, Stands}
 use Rattle.buffer_frames.specs.Passes.{GoesOnBy, HasAdded}
 use Rattle.buffer_frames.specs.declared.pass.Pass.{Pass}
@@ -41,14 +40,14 @@ module _ {D : Type 0} (device : Disk D) where
   never_bad f m p q ks OutOfMemory through met none = tt
 
   -- what a step found, after others, and what it left
-  pub meets_by : HistoryHolds → (f m left : FramesValue D) (p q : Pass) (ks : List ℕ)
+  pub meets_by : (f m left : FramesValue D) (p q : Pass) (ks : List ℕ)
       (X : FramesValue D → Pass → Type 0) → VacuumsOn device f p m q ks → MetNoFault device f m
       → HasAdded device m left [] → Finds device m q X → VacuumMeets device f p left X
-  meets_by history f m left p q ks X through met refused (g, r, reads, fine, x) = (
+  meets_by f m left p q ks X through met refused (g, r, reads, fine, x) = (
     g,
     r,
     ks ++ [],
-    vacuums_in_turn device history f m g p q r ks [] through (reads_vacuum device history m g q r reads),
+    vacuums_in_turn device f m g p q r ks [] through (reads_vacuum device m g q r reads),
     fine_then device f m g met fine,
     λ R s.
         let on = through.added.on R s in

@@ -9,7 +9,6 @@ use Rattle.page_types.specs.Records.{kind_number}
 use Rattle.page_types.specs.declared.record.Kind.{Kind}
 use Rattle.core_state.specs.Log.{In}
 use Rattle.core_state.specs.Allowed.{Sheet, Step}
-use Rattle.core_maintenance.specs.Keeping.{HistoryHolds}
 use Rattle.core_vacuum.specs.Leaving.{IsOut}
 use Rattle.buffer_frames.specs.Frames.{FramesValue}
 use Rattle.buffer_frames.specs.Passes.{Seen}
@@ -62,7 +61,7 @@ module _ {D : Type 0} (device : Disk D) (f : FramesValue D) (p : Pass) (began : 
 
 -- ── what is logged ──
 
-module _ {D : Type 0} (device : Disk D) (history : HistoryHolds) (f g h : FramesValue D) (p q r : Pass)
+module _ {D : Type 0} (device : Disk D) (f g h : FramesValue D) (p q r : Pass)
     (reads : WorksOn device f p g q []) (heap : Sheet) where
   -- one record at most, of the kinds 20 and 21
   abbrev pub Works : Type 0
@@ -73,7 +72,7 @@ module _ {D : Type 0} (device : Disk D) (history : HistoryHolds) (f g h : Frames
 
   still_works : WorksOn device g q h r [] → Works
   still_works works =
-      ([], omega arith, tt, reads_then device history f g h p q r [] reads (reads_vacuum device history g h q r works))
+      ([], omega arith, tt, reads_then device f g h p q r [] reads (reads_vacuum device g h q r works))
 
   pub drop_works : (found : Chained) → LogsDrop device g q heap h r found → Works
   drop_works found logs =
@@ -83,8 +82,8 @@ module _ {D : Type 0} (device : Disk D) (history : HistoryHolds) (f g h : Frames
       let u = logs.pass_held in
       let ks : List ℕ = kind_number (logs.step).kind ∷ [] in
       by_step logs.step is
-      (reads_then device history f g h p q r ks reads
-      (reads_then device history g m h q u r ks (logs.reads).works (logs.logged).works))
+      (reads_then device f g h p q r ks reads
+      (reads_then device g m h q u r ks (logs.reads).works (logs.logged).works))
 
   pub free_works : (group : List ℕ) → LogsFree device g q heap h r group → Works
   free_works group (inl still) = still_works (still.0).works
@@ -92,7 +91,7 @@ module _ {D : Type 0} (device : Disk D) (history : HistoryHolds) (f g h : Frames
       let is : IsFreeKind (kind_number (logs.0).kind) =
       subst (λ (k : Kind). IsFreeKind (kind_number k)) (sym (logs.1).kind_is) (omega arith, omega arith) in
       by_step logs.0 is
-      (reads_then device history f g h p q r (kind_number (logs.0).kind ∷ []) reads (logs.2).works)
+      (reads_then device f g h p q r (kind_number (logs.0).kind ∷ []) reads (logs.2).works)
 
   -- the end is nearer
   pub drop_nearer : (found : Chained) (items : List ℕ) (c : Freeing) → LogsDrop device g q heap h r found

@@ -4,7 +4,6 @@ use Rattle.disk_trait.specs.declared.device.Disk.{Ghosts as Disk}
 use Rattle.core_state.specs.Log.{Log, Pages, Shows}
 use Rattle.core_state.specs.Legal.{IsLegal}
 use Rattle.core_state.specs.Allowed.{Sheet}
-use Rattle.core_maintenance.specs.Keeping.{HistoryHolds}
 use Rattle.buffer_frames.specs.Frames.{FramesValue}
 use Rattle.buffer_frames.specs.Passes.{IsPassOf, IsHolding, Seen}
 use Rattle.buffer_frames.specs.declared.pass.Pass.{Pass}
@@ -22,7 +21,7 @@ use Rattle.gin_vacuum.proofs.Downs.{seen_as}
 use Rattle.gin_vacuum.proofs.Logs.{reads_vacuum}
 use Rattle.gin_vacuum.proofs.Swept.{dead_on, at_on, sweeping_on}
 
-module _ {D : Type 0} (device : Disk D) (history : HistoryHolds) (f g : FramesValue D) (p q : Pass) (right : HasRight p)
+module _ {D : Type 0} (device : Disk D) (f g : FramesValue D) (p q : Pass) (right : HasRight p)
     (was : IsPassOf f p) (none : p.held ≡ 0) (reads : ReadsOn device f p g q) (dead : List ℕ) (old : Sweeping)
     (sw : IsSweeping device f p dead old) where
   pub right_then : HasRight q
@@ -41,8 +40,8 @@ module _ {D : Type 0} (device : Disk D) (history : HistoryHolds) (f g : FramesVa
   refused e still cause lawful fault = record {
     sweeping = swept_at;
     none_held = still;
-    works = ([], omega arith, tt, reads_vacuum device history f g p q reads.works);
-    refused = reads_vacuum device history f g p q reads.works;
+    works = ([], omega arith, tt, reads_vacuum device f g p q reads.works);
+    refused = reads_vacuum device f g p q reads.works;
     unmoved = refl;
     cause = cause;
     lawful = lawful;
@@ -73,7 +72,7 @@ module _ {D : Type 0} (device : Disk D) (history : HistoryHolds) (f g : FramesVa
         [],
         omega arith,
         tt,
-        reads_vacuum device history f h p r (reads_in_turn device f g h p q r reads back).works,
+        reads_vacuum device f h p r (reads_in_turn device f g h p q r reads back).works,
       );
       refused = tt;
       unmoved = tt;

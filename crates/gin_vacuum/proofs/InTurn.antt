@@ -3,7 +3,6 @@ use Rattle.std.proofs.Common.{ℕ, Bool, List, [], ◌∷◌, ◌++◌, subst, �
 use Rattle.std.specs.List.{AllByRecursion}
 use Rattle.disk_trait.specs.declared.device.Disk.{Ghosts as Disk}
 use Rattle.wal.proofs.Paging.{kept_then}
-use Rattle.core_maintenance.specs.Keeping.{HistoryHolds}
 use Rattle.buffer_frames.specs.Frames.{FramesValue, RunsOn}
 use Rattle.buffer_frames.specs.Passes.{GoesOnBy}
 use Rattle.buffer_frames.specs.declared.pass.Pass.{Pass}
@@ -62,7 +61,7 @@ module _ {D : Type 0} (device : Disk D) where
     within = omega (arith, right.within, w.rises.seen);
   }
 
-module _ {D : Type 0} (device : Disk D) (history : HistoryHolds) where
+module _ {D : Type 0} (device : Disk D) where
   pub vacuums_in_turn : (f g h : FramesValue D) (p q r : Pass) (xs ys : List ℕ) → VacuumsOn device f p g q xs
       → VacuumsOn device g q h r ys → VacuumsOn device f p h r (xs ++ ys)
   vacuums_in_turn f g h p q r xs ys x y =
@@ -71,7 +70,7 @@ module _ {D : Type 0} (device : Disk D) (history : HistoryHolds) where
         is_pass = y.is_pass;
         added = added_in_turn device f g h xs ys x.added y.added;
         vacuum = all;
-        history = history_on history f.journal.owes (xs ++ ys) all;
+        history = history_on f.journal.owes (xs ++ ys) all;
         rises = rises_on device p q r x.rises y.rises;
         pin = y.pin ∙ x.pin;
         room = y.room ∙ x.room;
@@ -101,4 +100,4 @@ module _ {D : Type 0} (device : Disk D) (history : HistoryHolds) where
   pub reads_then : (f g h : FramesValue D) (p q r : Pass) (ks : List ℕ) → WorksOn device f p g q []
       → VacuumsOn device g q h r ks → VacuumsOn device f p h r ks
   reads_then f g h p q r ks x y =
-      vacuums_in_turn f g h p q r [] ks (reads_vacuum device history f g p q x) y
+      vacuums_in_turn f g h p q r [] ks (reads_vacuum device f g p q x) y

@@ -25,6 +25,7 @@ use Rattle.gin_vacuum.specs.Inner.Reading.{IsReadLeaf, body_after}
 use Rattle.gin_vacuum.specs.Inner.Sweeping.{HasNextTree}
 use Rattle.gin_vacuum.specs.declared.sweeping.ReadLeaf.{ReadLeaf}
 use Rattle.gin_vacuum.specs.declared.sweeping.Sweeping.{Sweeping}
+use Rattle.gin_vacuum.specs.declared.sweeping.Stage.{Stage}
 use Rattle.gin_vacuum.specs.declared.sweeping.Stage.TheVariants as stage
 use Rattle.gin_vacuum.proofs.Cleaned.{IsLeftAs}
 use Rattle.gin_vacuum.proofs.EntryPages.{leaf_below}
@@ -68,6 +69,15 @@ next_high old _ (HasNextTree.leaf all on) = tt
 next_high old _ (HasNextTree.done all end) = tt
 
 -- ── fewer steps are left ──
+
+-- on the way down to the first leaf
+pub down_lower : (m : Sweeping) (page left : ℕ) (t : Stage) → m.stage ≡ stage.Down page → left < reads_left m.left
+    → below_left (record m { stage = t; left = Some left }) t ≡ 0 → above_left t ≡ 0
+    → steps_left (record m { stage = t; left = Some left }) < steps_left m
+down_lower m page left t is lower none level =
+    let below : below_left m m.stage ≡ 0 = ap (below_left m) is in
+    let above : above_left m.stage ≡ 0 = ap above_left is in
+    omega (arith, lower, none, level, below, above)
 
 pub few_roots : (c : Page) → IsPage c → IsEntryLeaf c.body → (roots : List ℕ)
     → length roots ≤ length (entries_in c.body)

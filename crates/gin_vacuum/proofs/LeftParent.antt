@@ -17,7 +17,6 @@ use Rattle.core_state.specs.Legal.{IsLegal}
 use Rattle.core_state.specs.Allowed.{Sheet}
 use Rattle.core_state.specs.Steps.{sheet}
 use Rattle.core_state.proofs.LawsHold.{pages}
-use Rattle.core_maintenance.specs.Keeping.{HistoryHolds}
 use Rattle.core_vacuum.specs.Entries.{EntriesHold}
 use Rattle.core_vacuum.specs.Keeping.{VacuumHolds}
 use Rattle.core_vacuum.specs.Leaves.{LeavesHold}
@@ -98,7 +97,7 @@ link_some page high c is fits some none =
     let g : IsHighItem c.right high = (fits.body).0 in
     let z = g.none none in omega (arith, z, some)
 
-module _ {D : Type 0} (device : Disk D) (history : HistoryHolds) (f : FramesValue D) (p : Pass) (of : IsPassOf f p)
+module _ {D : Type 0} (device : Disk D) (f : FramesValue D) (p : Pass) (of : IsPassOf f p)
     (right : HasRight p) (parent : Sheet) (hold : IsHolding device f p (parent ∷ [])) (dead : List ℕ) (old : Sweeping)
     (sw : IsSweeping device f p dead old) (e : Empty) (page : ℕ) (left : Option ℕ)
     (is : old.stage ≡ stage.Parent e page left) (h : FramesValue D) (r : Pass) (still : r.held ≡ 0) where
@@ -129,8 +128,8 @@ module _ {D : Type 0} (device : Disk D) (history : HistoryHolds) (f : FramesValu
   not_deleted err reads cause fault = record {
     sweeping = sweeping_on device f h p r right of reads.works dead (parent ∷ []) hold old sw;
     none_held = still;
-    works = ([], omega arith, tt, reads_vacuum device history f h p r reads.works);
-    refused = reads_vacuum device history f h p r reads.works;
+    works = ([], omega arith, tt, reads_vacuum device f h p r reads.works);
+    refused = reads_vacuum device f h p r reads.works;
     unmoved = refl;
     cause = finds_as device f p (IsCause device (IsBadAround device e) h err) (IsCause device (IsBad device old) h err)
         (λ g q why. cause_as device (IsBadAround device e) (IsBad device old) h err g q (bad_around g) why) cause;
@@ -171,7 +170,7 @@ module _ {D : Type 0} (device : Disk D) (history : HistoryHolds) (f : FramesValu
         high = high_past e.root e.page e.link old new goes;
       };
       none_held = still;
-      works = ([], omega arith, tt, reads_vacuum device history f h p r reads.works);
+      works = ([], omega arith, tt, reads_vacuum device f h p r reads.works);
       refused = tt;
       unmoved = tt;
       cause = tt;
@@ -218,7 +217,7 @@ module _ {D : Type 0} (device : Disk D) (history : HistoryHolds) (f : FramesValu
         kind_number (logs.step).kind ∷ [],
         omega arith,
         (subst (λ (k : Kind). IsSweepKind (kind_number k)) (sym (logs.is_step).kind_is) (omega arith, omega arith), tt),
-        reads_then device history f logs.frames_held h p logs.pass_held r (kind_number (logs.step).kind ∷ [])
+        reads_then device f logs.frames_held h p logs.pass_held r (kind_number (logs.step).kind ∷ [])
             works.works (logs.logged).works,
       );
       refused = tt;

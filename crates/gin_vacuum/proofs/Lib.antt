@@ -62,6 +62,7 @@ mod DeleteMade
 mod AroundHeld
 mod ParentHeld
 mod NotHeld
+mod AtWork
 mod PostsGone
 mod LeafSwept
 mod SweepEnds

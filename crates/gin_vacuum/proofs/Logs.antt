@@ -11,7 +11,6 @@ use Rattle.page_types.specs.declared.record.Kind.TheVariants as kind
 use Rattle.core_state.specs.Log.{Log, changed}
 use Rattle.core_state.specs.Allowed.{Sheet, Step}
 use Rattle.core_state.specs.States.{StateValue, step_of, stepped, noted}
-use Rattle.core_maintenance.specs.Keeping.{HistoryHolds}
 use Rattle.core_vacuum.specs.HeapPages.{HeapPagesHold}
 use Rattle.buffer_frames.specs.Drawing.{HasEncoding}
 use Rattle.buffer_frames.specs.Opens.{IsEarlyKind}
@@ -93,14 +92,14 @@ records_owed : (owes : Bool) (s : StateValue) → s.records ≤ (after_owed owes
 records_owed true s = let e : (after_owed true s).records ≡ 1 + s.records = refl in omega (arith, e)
 records_owed false s = omega arith
 
-module _ {D : Type 0} (device : Disk D) (history : HistoryHolds) where
+module _ {D : Type 0} (device : Disk D) where
   -- calls that log nothing
   pub reads_vacuum : (f g : FramesValue D) (p q : Pass) → WorksOn device f p g q [] → VacuumsOn device f p g q []
   reads_vacuum f g p q w = record {
     is_pass = w.is_pass;
     added = w.added;
     vacuum = tt;
-    history = history_on history f.journal.owes [] tt;
+    history = history_on f.journal.owes [] tt;
     rises = w.rises;
     pin = w.pin;
     room = w.room;
@@ -119,7 +118,7 @@ module _ {D : Type 0} (device : Disk D) (history : HistoryHolds) where
     rooms = rooms_same device f g w.goes.state;
   }
 
-module _ {D : Type 0} (device : Disk D) (history : HistoryHolds) (heaps : HeapPagesHold) (f g : FramesValue D)
+module _ {D : Type 0} (device : Disk D) (heaps : HeapPagesHold) (f g : FramesValue D)
     (p q : Pass) (held : List Sheet)
     (step : Step) (may : MayLogStep device f p held step) {T : Type 0} (r : Result T LogError)
     (cause : WriteHasCause device f.journal.disk g.journal.disk r)
@@ -175,7 +174,7 @@ module _ {D : Type 0} (device : Disk D) (history : HistoryHolds) (heaps : HeapPa
       is_pass = of;
       added = added;
       vacuum = (may.vacuum, tt);
-      history = history_on history f.journal.owes (kind_number step.kind ∷ []) (may.vacuum, tt);
+      history = history_on f.journal.owes (kind_number step.kind ∷ []) (may.vacuum, tt);
       rises = rises;
       pin = pin;
       room = room;

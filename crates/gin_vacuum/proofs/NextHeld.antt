@@ -11,7 +11,6 @@ use Rattle.core_state.specs.Legal.{IsLegal}
 use Rattle.core_state.specs.PagesTold.{PagesTold, IsEntryLeaf, IsPostLeaf}
 use Rattle.core_state.specs.States.{StateTells}
 use Rattle.core_state.proofs.LawsHold.{pages}
-use Rattle.core_maintenance.specs.Keeping.{HistoryHolds}
 use Rattle.core_maintenance.specs.Leading.{IsHigh, IsHighPost}
 use Rattle.buffer_frames.specs.Frames.{FramesValue, Behind}
 use Rattle.buffer_frames.specs.Passes.{IsPassOf, Seen}
@@ -99,7 +98,7 @@ module _ {D : Type 0} (device : Disk D) where
       let shown = shown_by (cut p.seen R) legal_then.valid in
       never t up R stands legal shown.0 shown.1
 
-module _ {D : Type 0} (device : Disk D) (history : HistoryHolds) (f g : FramesValue D) (p q : Pass) (right : HasRight p)
+module _ {D : Type 0} (device : Disk D) (f g : FramesValue D) (p q : Pass) (right : HasRight p)
     (was : IsPassOf f p) (none : p.held ≡ 0) (reads : ReadsOn device f p g q) (dead : List ℕ) (old : Sweeping)
     (sw : IsSweeping device f p dead old) (page : ℕ) (next : IsNext old.stage page)
     (there : (S : Log) (P : Pages) → S ≢ [] → IsLegal S → Shows S P → IsAt P dead old old.stage
@@ -177,7 +176,7 @@ module _ {D : Type 0} (device : Disk D) (history : HistoryHolds) (f g : FramesVa
       → ((n : ℕ) → e ≡ BadPage n → IsWhyBad n) → FaultBy device f g e
       → HasSwept {T = T} device f p g q dead old old (Err e)
   refused_next e still cause bad fault =
-      refused device history f g p q right was none reads dead old sw e still (next_cause e cause bad)
+      refused device f g p q right was none reads dead old sw e still (next_cause e cause bad)
       (next_lawful e bad) fault
 
   -- ── one that is none of its place ──
@@ -186,7 +185,7 @@ module _ {D : Type 0} (device : Disk D) (history : HistoryHolds) (f g : FramesVa
       → FaultBy device f g (BadPage page) → HasSwept {T = T} device f p g q dead old old (Err (BadPage page))
   refused_other c still cannot fault =
       let never = never_other cannot in
-      refused device history f g p q right was none reads dead old sw (BadPage page) still
+      refused device f g p q right was none reads dead old sw (BadPage page) still
       (finds_now device f p (IsCause device (IsBad device old) g (BadPage page)) was
       (IsBad.read next cannot never)) (λ few. never) fault
 
@@ -194,5 +193,5 @@ module _ {D : Type 0} (device : Disk D) (history : HistoryHolds) (f g : FramesVa
   pub refused_memory : {T : Type 0} → q.held ≡ 0 → FaultBy device f g OutOfMemory
       → HasSwept {T = T} device f p g q dead old old (Err OutOfMemory)
   refused_memory still fault =
-      refused device history f g p q right was none reads dead old sw OutOfMemory still
+      refused device f g p q right was none reads dead old sw OutOfMemory still
       (finds_now device f p (IsCause device (IsBad device old) g OutOfMemory) was tt) tt fault

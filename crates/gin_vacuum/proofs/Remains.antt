@@ -10,8 +10,10 @@ use Rattle.page_types.specs.Items.{items_of, item_list, IsItemList}
 use Rattle.page_types.specs.Pages.{IsPage, IsBody}
 use Rattle.page_types.specs.Views.{posting_items_in}
 use Rattle.page_types.specs.declared.page.Page.{Page}
+use Rattle.page_types.specs.declared.page.Entry.{Entry}
 use Rattle.page_types.specs.declared.page.Body.{Body}
 use Rattle.page_types.specs.declared.page.Body.TheVariants as body
+use Rattle.entry_tree.specs.Adding.{IsEntryLeaf}
 use Rattle.posting_tree.specs.Adding.{IsPostLeaf}
 use Rattle.posting_tree.specs.Removing.{IsLeafLeft, IsListed}
 use Rattle.gin_vacuum.specs.Inner.Reading.{IsCleaned, body_after}
@@ -68,3 +70,10 @@ page_after dead page None d cleaned same e x is =
 page_after dead page (Some b) d cleaned same e x is =
     let y = subst (IsCleaned dead page) (sym e) x in
     (y.left.2, subst (λ (c : Option Page). b.now.body ≡ body_after page c) e refl)
+
+-- a body that is no such leaf
+pub not_entries : (b : Body) → ((high : List ℕ) (es : List Entry) → b ≡ body.EntryLeaf high es → ⊥) → IsEntryLeaf b → ⊥
+not_entries _ off (IsEntryLeaf.leaf high es) = off high es refl
+
+pub not_posts : (b : Body) → ((high : ℕ) (list : List ℕ) → b ≡ body.PostLeaf high list → ⊥) → IsPostLeaf b → ⊥
+not_posts _ off (IsPostLeaf.leaf high list) = off high list refl

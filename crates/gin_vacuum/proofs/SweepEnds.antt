@@ -1,10 +1,10 @@
 -- How a whole sweep begins and ends.
-use Rattle.std.proofs.Common.{◌≡◌, ℕ, List, [], ◌++◌, refl, sym, subst, arith, Ok, Err, Bool}
-use Rattle.std.specs.Prelude.{Result}
+use Rattle.std.proofs.Common.{◌≡◌, ◌∙◌, ℕ, List, [], ◌++◌, refl, sym, subst, arith, Ok, Err, Bool, true, false}
+use Rattle.std.specs.Prelude.{◌↔◌, Result, Option, Some, None, IfSome, IfNone}
 use Rattle.std.specs.List.{AllByRecursion}
+use Rattle.std.specs.Option.{is_some}
 use Rattle.disk_trait.specs.declared.device.Disk.{Ghosts as Disk}
 use Rattle.core_state.specs.TreeRules.{Toward}
-use Rattle.core_maintenance.specs.Keeping.{HistoryHolds}
 use Rattle.buffer_frames.specs.Frames.{FramesValue}
 use Rattle.buffer_frames.specs.Passes.{IsPassOf}
 use Rattle.buffer_frames.specs.declared.pass.Pass.{Pass}
@@ -30,6 +30,15 @@ use Rattle.gin_vacuum.proofs.SweepCauses.{cause_as}
 abbrev pub Swept : {D : Type 0} → Disk D → FramesValue D → Pass → FramesValue D → Pass → Type 0
 Swept device f p g q = (kinds : List ℕ) × AllByRecursion IsSweepKind kinds × VacuumsOn device f p g q kinds
 
+-- whether there is one says whether it is the end
+pub ends_none : {A : Type 0} (o : Option A) (b : Bool) (End : Type 0) → b ≡ is_some o → IfSome o (λ x. End → ⊥)
+    → IfNone o End → (b ≡ false) ↔ End
+ends_none None b End is some none = (λ e. none, λ e. is)
+ends_none (Some x) b End is some none = (
+  λ e. absurd (let two : true ≡ false = sym is ∙ e in let z : ⊥ = cc in z),
+  λ e. absurd (some e),
+)
+
 module _ {D : Type 0} (device : Disk D) where
   -- nothing is read yet
   pub sweep_begins : (f : FramesValue D) (p : Pass) (dead : List ℕ) (s : Sweeping) → begun s → AreDead device f p dead
@@ -42,47 +51,46 @@ module _ {D : Type 0} (device : Disk D) where
     high = subst HasHigh (sym b.0) tt;
   }
 
-  module _ (history : HistoryHolds) where
-    pub nothing_done : (f : FramesValue D) (p : Pass) → IsPassOf f p → VacuumsOn device f p f p []
-    nothing_done f p of =
-        reads_vacuum device history f f p p (reads_still device f p of (same_added device f)).works
+  pub nothing_done : (f : FramesValue D) (p : Pass) → IsPassOf f p → VacuumsOn device f p f p []
+  nothing_done f p of =
+      reads_vacuum device f f p p (reads_still device f p of (same_added device f)).works
 
-    -- a step at the end does nothing
-    pub swept_done : (f : FramesValue D) (p : Pass) (dead : List ℕ) (s : Sweeping) (b : Bool) → IsPassOf f p
-        → p.held ≡ 0 → IsSweeping device f p dead s → HasSwept {T = Bool} device f p f p dead s s (Ok b)
-    swept_done f p dead s b of none sw = record {
-      sweeping = sw;
-      none_held = none;
-      works = ([], omega arith, tt, nothing_done f p of);
-      refused = tt;
-      unmoved = tt;
-      cause = tt;
-      lawful = tt;
-      fine = fine_still device f;
-      fault = tt;
-    }
+  -- a step at the end does nothing
+  pub swept_done : (f : FramesValue D) (p : Pass) (dead : List ℕ) (s : Sweeping) (b : Bool) → IsPassOf f p
+      → p.held ≡ 0 → IsSweeping device f p dead s → HasSwept {T = Bool} device f p f p dead s s (Ok b)
+  swept_done f p dead s b of none sw = record {
+    sweeping = sw;
+    none_held = none;
+    works = ([], omega arith, tt, nothing_done f p of);
+    refused = tt;
+    unmoved = tt;
+    cause = tt;
+    lawful = tt;
+    fine = fine_still device f;
+    fault = tt;
+  }
 
-    module _ (f m g : FramesValue D) (p q r : Pass) (dead : List ℕ) (before : Swept device f p m q)
-        (fine : MetNoFault device f m) (old new : Sweeping) where
-      pub swept_more : {T : Type 0} (result : Result T PlaceError)
-          → HasSwept device m q g r dead old new result → Swept device f p g r
-      swept_more result e = (
-        before.0 ++ e.works.0,
-        all_then IsSweepKind before.0 e.works.0 before.1 e.works.2,
-        vacuums_in_turn device history f m g p q r before.0 e.works.0 before.2 e.works.3,
-      )
+  module _ (f m g : FramesValue D) (p q r : Pass) (dead : List ℕ) (before : Swept device f p m q)
+      (fine : MetNoFault device f m) (old new : Sweeping) where
+    pub swept_more : {T : Type 0} (result : Result T PlaceError)
+        → HasSwept device m q g r dead old new result → Swept device f p g r
+    swept_more result e = (
+      before.0 ++ e.works.0,
+      all_then IsSweepKind before.0 e.works.0 before.1 e.works.2,
+      vacuums_in_turn device f m g p q r before.0 e.works.0 before.2 e.works.3,
+    )
 
-      pub sweep_cause : {T : Type 0} (e : PlaceError) → HasSwept {T = T} device m q g r dead old new (Err e)
-          → VacuumMeets device f p g (IsCause device (IsBadIn device) g e)
-      sweep_cause e s =
-          meets_by device history f m g p q before.0 (IsCause device (IsBadIn device) g e) before.2 fine
-          s.refused.added
-          (finds_as device m q (IsCause device (IsBad device old) g e) (IsCause device (IsBadIn device) g e)
-          (λ h x c. cause_as device (IsBad device old) (IsBadIn device) g e h x (λ n bad. (old, bad)) c) s.cause)
+    pub sweep_cause : {T : Type 0} (e : PlaceError) → HasSwept {T = T} device m q g r dead old new (Err e)
+        → VacuumMeets device f p g (IsCause device (IsBadIn device) g e)
+    sweep_cause e s =
+        meets_by device f m g p q before.0 (IsCause device (IsBadIn device) g e) before.2 fine
+        s.refused.added
+        (finds_as device m q (IsCause device (IsBad device old) g e) (IsCause device (IsBadIn device) g e)
+        (λ h x c. cause_as device (IsBad device old) (IsBadIn device) g e h x (λ n bad. (old, bad)) c) s.cause)
 
-      pub sweep_lawful : {T : Type 0} (e : PlaceError) → HasSwept {T = T} device m q g r dead old new (Err e)
-          → NeverBad device f e
-      sweep_lawful e s = never_bad device f m p q before.0 e before.2 fine s.lawful
+    pub sweep_lawful : {T : Type 0} (e : PlaceError) → HasSwept {T = T} device m q g r dead old new (Err e)
+        → NeverBad device f e
+    sweep_lawful e s = never_bad device f m p q before.0 e before.2 fine s.lawful
 
   -- at the end no dead item is left
   pub sweep_ends : (g : FramesValue D) (r : Pass) (dead : List ℕ) (s : Sweeping) → s.stage ≡ stage.Done

@@ -9,7 +9,6 @@ use Rattle.core_state.specs.Allowed.{Sheet}
 use Rattle.core_state.specs.Index.{Below}
 use Rattle.core_state.specs.Legal.{IsLegal}
 use Rattle.core_state.specs.TreeRules.{IsRoot}
-use Rattle.core_maintenance.specs.Keeping.{HistoryHolds}
 use Rattle.core_vacuum.specs.Keeping.{VacuumHolds}
 use Rattle.buffer_frames.specs.Frames.{FramesValue}
 use Rattle.buffer_frames.specs.Passes.{IsPassOf, IsHolding, Seen}
@@ -79,7 +78,7 @@ swept_to device f g p q dead old new a b s = record {
   fault = tt;
 }
 
-module _ {D : Type 0} (device : Disk D) (history : HistoryHolds) (f g : FramesValue D) (p q : Pass) (right : HasRight p)
+module _ {D : Type 0} (device : Disk D) (f g : FramesValue D) (p q : Pass) (right : HasRight p)
     (was : IsPassOf f p) (none : p.held ≡ 0) (reads : ReadsOn device f p g q) (dead : List ℕ) (old : Sweeping)
     (sw : IsSweeping device f p dead old) (h : FramesValue D) (r : Pass) where
   -- dead items may leave the page that is held
@@ -88,10 +87,10 @@ module _ {D : Type 0} (device : Disk D) (history : HistoryHolds) (f g : FramesVa
       → IsRemoval device g q dead held cleaned
   removal_held held cleaned hold seen is_cleaned = record {
     is_pass = reads.works.is_pass;
-    right = right_then device history f g p q right was none reads dead old sw;
+    right = right_then device f g p q right was none reads dead old sw;
     holding = hold;
     seen = seen;
-    leave = (swept_at device history f g p q right was none reads dead old sw).leave;
+    leave = (swept_at device f g p q right was none reads dead old sw).leave;
     is_cleaned = is_cleaned;
   }
 
@@ -99,7 +98,7 @@ module _ {D : Type 0} (device : Disk D) (history : HistoryHolds) (f g : FramesVa
   pub refused_log : {T : Type 0} (e : PlaceError) → MetNoFault device f g → ReadsOn device g q h r → r.held ≡ 0
       → CannotLog device h e g q → FaultBy device f h e → HasSwept {T = T} device f p h r dead old old (Err e)
   refused_log e fine more still cannot fault =
-      refused device history f h p r right was none (reads_in_turn device f g h p q r reads more) dead old sw e still
+      refused device f h p r right was none (reads_in_turn device f g h p q r reads more) dead old sw e still
       (finds_after device f g p q (IsCause device (IsBad device old) h e) reads.works fine
       (finds_now device g q (IsCause device (IsBad device old) h e) reads.works.is_pass
       (log_cause device (IsBad device old) h e g q cannot)))
@@ -113,13 +112,13 @@ module _ {D : Type 0} (device : Disk D) (history : HistoryHolds) (f g : FramesVa
       [],
       omega arith,
       tt,
-      reads_vacuum device history f h p r (reads_in_turn device f g h p q r reads c).works,
+      reads_vacuum device f h p r (reads_in_turn device f g h p q r reads c).works,
     )
     works_on (Some new) c = (
       18 ∷ [],
       omega arith,
       ((omega arith, omega arith), tt),
-      reads_then device history f g h p q r (18 ∷ []) reads.works c.works,
+      reads_then device f g h p q r (18 ∷ []) reads.works c.works,
     )
 
     -- dead items are gone, where there were some
@@ -133,7 +132,7 @@ module _ {D : Type 0} (device : Disk D) (history : HistoryHolds) (f g : FramesVa
         → HasHigh new.stage → HasSwept {T = T} device f p h r dead old new (Ok x)
     swept_cleaned x cleaned new removal c still fine there to high =
         let works = works_on cleaned c in
-        let then = swept_at device history f g p q right was none reads dead old sw in
+        let then = swept_at device f g p q right was none reads dead old sw in
         let seen = cleaned_seen device law g h q r dead held old old.stage there cleaned removal c then.at in
         record {
           sweeping = record {

@@ -7,3 +7,4 @@ pub mod Freeing
 pub mod Logging
 pub mod Reading
 pub mod Sweeping
+pub mod HoldingNext

@@ -1,13 +1,12 @@
 // Empty leaves of posting trees are deleted.
 ghost use Rattle.std.specs.Prelude.{◌≡◌, ◌≢◌, ◌↔◌, ◌<◌, ◌++◌, true, [], ◌∷◌, ℕ, List, Some};
-ghost use Rattle.std.specs.Prelude.{IfOk, IfErr, OnOk, OnErr, IfSome, IfNone};
+ghost use Rattle.std.specs.Prelude.{IfOk, IfErr, OnOk, OnErr, IfSome};
 ghost use Rattle.wal.specs.Waiting.{down_of};
 ghost use Rattle.page_types.specs.Numbers.{page_limit};
 ghost use Rattle.page_types.specs.Pages.{IsPage};
 ghost use Rattle.page_types.specs.declared.page.Body.TheVariants as bodies;
 ghost use Rattle.core_state.specs.Allowed.{Sheet as SheetValue};
 ghost use Rattle.core_state.specs.Steps.{sheet};
-ghost use Rattle.posting_tree.specs.Adding.{IsPostLeaf};
 ghost use Rattle.buffer_frames.specs.Frames.{Behind};
 ghost use Rattle.buffer_frames.specs.LogCauses.{IsCalm};
 ghost use Rattle.buffer_frames.specs.Passes.{IsPassOf, IsHolding};
@@ -23,8 +22,6 @@ ghost use Rattle.gin_vacuum.specs.Inner.Logging.{MayLogStep, LogsStep, CannotLog
 
 use crate::logging::{leave, log_pages};
 use buffer_frames::{Frames, Held, Pass, Step};
-use core_maintenance::found_stays;
-use core_vacuum::{leaves_stand, vacuum_steps_hold};
 use disk_trait::Disk;
 use gin_place::{PlaceError, hold_page, release};
 use page_types::{Body, Bytes, Gone, Kind, Page};
@@ -95,7 +92,6 @@ fn hold_before<D: Disk>(
     ensures fine { OnOk result (MetNoFault D.Disk frames.old frames.new) }
     ensures fault { IfErr result (λ e. FaultBy D.Disk frames.old frames.new e) }
 {
-    found_stays();
     if empty.before == 0 {
         return Ok(None);
     }
@@ -130,7 +126,6 @@ fn hold_empty<D: Disk>(
     ensures fine { OnOk result (MetNoFault D.Disk frames.old frames.new) }
     ensures fault { IfErr result (λ e. FaultBy D.Disk frames.old frames.new e) }
 {
-    found_stays();
     let leaf = hold_page(frames, pass, empty.page)?;
     if !is_empty_leaf(leaf.page(), empty) {
         release(frames, pass, leaf);
@@ -394,8 +389,6 @@ pub(crate) fn delete_leaf<D: Disk>(
     ensures fine { OnOk result (MetNoFault D.Disk frames.old frames.new) }
     ensures fault { IfErr result (λ e. FaultBy D.Disk frames.old frames.new e) }
 {
-    vacuum_steps_hold();
-    leaves_stand();
     let around = match hold_around(frames, pass, parent, empty) {
         Ok(around) => around,
         Err(error) => {

@@ -13,8 +13,6 @@ ghost use Rattle.gin_vacuum.specs.Inner.Finding.{HasTaken, HasKept};
 
 use crate::asks::{Dead, DeadOn, HeapFrom};
 use buffer_frames::{Frames, Pass};
-use core_maintenance::found_stays;
-use core_state::{documents_hold, pages_hold, steady_hold};
 use disk_trait::Disk;
 use gin_place::{PlaceError, hold_page, release};
 use page_types::{Body, Page};
@@ -55,9 +53,6 @@ fn read_dead<D: Disk>(
     requires none { pass.old.held ≡ 0 }
     requires finding { (from floor : ℕ) × (items : List ℕ)
         × IsFindingAt D.Disk frames.old pass.old from floor (Some page) items }
-    ensures still { (from floor : ℕ) (next : Option ℕ) (items : List ℕ)
-        → IsFindingAt D.Disk frames.old pass.old from floor next items
-        → IsFindingAt D.Disk frames.new pass.new from floor next items }
     ensures dead { IfOk result (λ d. (from floor : ℕ) (items : List ℕ)
         → IsFindingAt D.Disk frames.old pass.old from floor (Some page) items
         → IsFindingAt D.Disk frames.new pass.new from floor d.next (items ++ d.items.items)) }
@@ -69,10 +64,6 @@ fn read_dead<D: Disk>(
     ensures fine { OnOk result (MetNoFault D.Disk frames.old frames.new) }
     ensures fault { IfErr result (λ e. FaultBy D.Disk frames.old frames.new e) }
 {
-    found_stays();
-    steady_hold();
-    documents_hold();
-    pages_hold();
     let held = hold_page(frames, pass, page)?;
     let number = held.number();
     if !is_heap(held.page()) {
@@ -108,10 +99,6 @@ impl Finding {
         ensures fine { OnOk result (MetNoFault D.Disk frames.old frames.new) }
         ensures fault { IfErr result (λ e. FaultBy D.Disk frames.old frames.new e) }
     {
-        found_stays();
-        steady_hold();
-        documents_hold();
-        pages_hold();
         let next = frames.look(pass, &HeapFrom { page: FIRST_PAGE })?;
         Ok(Finding {
             next,

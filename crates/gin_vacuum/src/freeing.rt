@@ -1,5 +1,5 @@
 // Dead documents lose their chains, and then their slots.
-ghost use Rattle.std.specs.Prelude.{◌≡◌, ◌≢◌, ◌↔◌, ℕ, ◌-◌, ◌<◌, ◌≤◌, List, [], ◌∷◌, length, take, drop, true};
+ghost use Rattle.std.specs.Prelude.{◌≡◌, ◌≢◌, ℕ, ◌-◌, ◌<◌, ◌≤◌, List, [], ◌∷◌, length, take, drop, true};
 ghost use Rattle.std.specs.Prelude.{Some, false, get_or, IfOk, IfErr, OnOk, OnErr, IfSome, IfNone};
 ghost use Rattle.std.specs.List.{AllByRecursion};
 ghost use Rattle.wal.specs.Waiting.{down_of};
@@ -9,7 +9,6 @@ ghost use Rattle.page_types.specs.Pages.{IsPage};
 ghost use Rattle.page_types.specs.Parts.{head_with};
 ghost use Rattle.page_types.specs.declared.page.Head.{Head as HeadValue};
 ghost use Rattle.core_state.specs.Log.{In};
-ghost use Rattle.core_state.specs.Allowed.{Sheet as SheetValue};
 ghost use Rattle.core_state.specs.Documents.{page_of, slot_of};
 ghost use Rattle.core_vacuum.specs.Leaving.{IsOut};
 ghost use Rattle.buffer_frames.specs.Frames.{Behind, Lies};
@@ -33,18 +32,15 @@ ghost use Rattle.gin_vacuum.specs.Inner.Logging.{MayLogStep, LogsStep, CannotLog
 use crate::finding::is_heap;
 use crate::logging::{leave, log_one, log_pages, one_step};
 use buffer_frames::{Frames, Held, Pass, Step};
-use core_maintenance::placing_keeps;
-use core_state::{documents_hold, records_keep};
-use core_vacuum::{out_stays, vacuum_keeps, vacuum_steps_hold};
 use disk_trait::Disk;
-use doc_heap::{Chain, drop_page, free_items, head, slots_are_heads};
+use doc_heap::{Chain, drop_page, free_items, head};
 use gin_place::{PlaceError, hold_page, hold_seen, release};
 use page_types::{Body, Gone, HeadFields, Kind, MOST_SLOTS, Page};
 use posting_code::ItemSet;
 use std::alloc::{AllocError, Global};
 
 /// Slots of dead documents become free, heap page by heap page: first their chains go, page by page.
-#[derive(Clone, Copy, Debug)]
+#[derive(Clone, Copy)]
 pub struct Freeing {
     // the documents of the items before this one have no slot any more
     pub(crate) from: usize,
@@ -306,8 +302,6 @@ fn drop_first<D: Disk>(
     ensures fine { OnOk result (MetNoFault D.Disk frames.old frames.new) }
     ensures fault { IfErr result (λ e. FaultBy D.Disk frames.old frames.new e) }
 {
-    slots_are_heads();
-    vacuum_steps_hold();
     let both = hold_both(frames, pass, heap, found)?;
     match drop_step(alloc, &both, found) {
         Ok(Some(step)) => log_both(alloc, frames, pass, both, step),
@@ -360,7 +354,6 @@ fn free_all<D: Disk>(
     ensures fine { OnOk result (MetNoFault D.Disk frames.old frames.new) }
     ensures fault { IfErr result (λ e. FaultBy D.Disk frames.old frames.new e) }
 {
-    vacuum_steps_hold();
     match free_step(alloc, &heap, items) {
         Ok(Some(step)) => log_one(alloc, frames, pass, heap, step),
         Ok(None) => {
@@ -441,10 +434,6 @@ impl Freeing {
         ensures fine { OnOk result (MetNoFault D.Disk frames.old frames.new) }
         ensures fault { IfErr result (λ e. FaultBy D.Disk frames.old frames.new e) }
     {
-        placing_keeps();
-        records_keep();
-        out_stays();
-        vacuum_keeps();
         let page = items[self.from] / MOST_SLOTS as u32;
         let end = end_of(items, self.from, page);
         let heap = hold_heap(frames, pass, page)?;
@@ -479,7 +468,6 @@ impl Freeing {
         ensures { (began : ℕ) → IsFreeing D.Disk frames.old pass.old began dead.now self.old
             → HasFreed D.Disk frames.old pass.old frames.new pass.new began dead.now self.old self.new result }
     {
-        placing_keeps();
         let items = dead.items();
         if self.from >= items.len() {
             return Ok(false);
@@ -512,8 +500,6 @@ pub fn free_slots<D: Disk>(
     ensures lawful { IfErr result (λ e. NeverBad D.Disk frames.old e) }
     ensures fault { IfErr result (λ e. FaultBy D.Disk frames.old frames.new e) }
 {
-    documents_hold();
-    placing_keeps();
     let mut freeing = Freeing::begin();
     for _ in 0..u64::MAX {
         let more = freeing.step(alloc, frames, pass, dead)?;

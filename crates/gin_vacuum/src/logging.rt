@@ -7,8 +7,6 @@ ghost use Rattle.gin_place.specs.Holding.{ReadsOn};
 ghost use Rattle.gin_vacuum.specs.Inner.Logging.{MayLogStep, LogsStep, CannotLog};
 
 use buffer_frames::{Frames, Held, Pass, Sheet, Step};
-use core_maintenance::{found_stays, placing_keeps};
-use core_vacuum::heap_pages_stand;
 use disk_trait::Disk;
 use gin_place::{PlaceError, release};
 use page_types::{Kind, Page};
@@ -30,9 +28,6 @@ pub(crate) fn log_pages<D: Disk>(
     ensures fine { OnOk result (MetNoFault D.Disk frames.old frames.new) }
     ensures fault { IfErr result (λ e. FaultBy D.Disk frames.old frames.new e) }
 {
-    found_stays();
-    placing_keeps();
-    heap_pages_stand();
     frames.log_step(pass, pages, step)?;
     Ok(())
 }

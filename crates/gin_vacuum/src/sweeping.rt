@@ -1,18 +1,14 @@
 // Dead items leave the trees of the index.
-ghost use Rattle.std.specs.Prelude.{◌≡◌, ◌≢◌, ◌⊎◌, ◌↔◌, ◌<◌, ◌≤◌, ◌-◌, suc, true, false, [], ◌∷◌, ℕ, List, length, Some};
-ghost use Rattle.std.specs.Prelude.{None, ⊤};
+ghost use Rattle.std.specs.Prelude.{◌≡◌, ◌≢◌, ◌⊎◌, ◌↔◌, ◌<◌, ◌-◌, suc, true, false, [], ◌∷◌, ℕ, List};
+ghost use Rattle.std.specs.Prelude.{Some, None, ⊤};
 ghost use Rattle.std.specs.Prelude.{Option, IfOk, IfErr, IfSome, IfNone, OnOk, OnErr, IsErrOf};
 ghost use Rattle.std.specs.List.{AllByRecursion};
 ghost use Rattle.std.specs.Option.{unwrap_or};
-ghost use Rattle.wal.specs.Waiting.{down_of};
 ghost use Rattle.page_types.specs.Numbers.{item_limit};
 ghost use Rattle.page_types.specs.Pages.{IsPage};
 ghost use Rattle.page_types.specs.Views.{posting_items_in};
-ghost use Rattle.core_state.specs.Allowed.{Sheet as SheetValue};
 ghost use Rattle.core_state.specs.PageChoice.{IsLeast, AreBelow};
 ghost use Rattle.core_state.specs.States.{StateTells};
-ghost use Rattle.core_state.specs.VacuumRules.{MayLeave};
-ghost use Rattle.core_state.specs.Log.{In};
 ghost use Rattle.entry_tree.specs.Adding.{IsEntryLeaf};
 ghost use Rattle.posting_tree.specs.Adding.{IsPostLeaf};
 ghost use Rattle.posting_tree.specs.Finding.{IsFound};
@@ -20,27 +16,28 @@ ghost use Rattle.posting_tree.specs.declared.finding.Found.TheVariants as found;
 ghost use Rattle.buffer_frames.specs.Frames.{Lies};
 ghost use Rattle.buffer_frames.specs.Passes.{IsPassOf, IsHolding, Seen};
 ghost use Rattle.gin_place.specs.Placing.{HasRight};
-ghost use Rattle.gin_place.specs.Causes.{Finds, CannotUse, CannotHold, NoBadPage};
+ghost use Rattle.gin_place.specs.Causes.{Finds, CannotUse};
 ghost use Rattle.gin_place.specs.Faults.{MetNoFault, FaultBy};
 ghost use Rattle.gin_place.specs.Holding.{ReadsOn};
 ghost use Rattle.gin_place.specs.Stepping.{reads_left};
 ghost use Rattle.gin_vacuum.specs.Vacuum.{AreDead, AreSwept};
 ghost use Rattle.gin_vacuum.specs.Going.{VacuumsOn};
-ghost use Rattle.gin_vacuum.specs.Sweeping.{IsSweeping, IsAt};
+ghost use Rattle.gin_vacuum.specs.Sweeping.{IsSweeping};
 ghost use Rattle.gin_vacuum.specs.Ending.{VacuumMeets, NeverBad};
-ghost use Rattle.gin_vacuum.specs.Stepping.{IsSpent, IsCause, IsBad, IsBadIn, IsSweepKind, HasSwept, steps_left};
+ghost use Rattle.gin_vacuum.specs.Stepping.{IsSpent, IsCause, IsBadIn, IsNext, IsSweepKind, HasSwept, left_of};
+ghost use Rattle.gin_vacuum.specs.Stepping.{steps_left};
 ghost use Rattle.gin_place.specs.declared.error.PlaceError.TheVariants.{BadPage};
-ghost use Rattle.gin_vacuum.specs.Inner.Logging.{LogsStep, CannotLog};
-ghost use Rattle.gin_vacuum.specs.Inner.Reading.{IsBelow, IsBelowInTree, AreRoots, IsReadLeaf, IsReadPosts, IsCleaned};
+ghost use Rattle.gin_vacuum.specs.Inner.Logging.{CannotLog};
+ghost use Rattle.gin_vacuum.specs.Inner.Reading.{IsBelow, IsBelowInTree, AreRoots, IsReadLeaf, IsReadPosts, IsUnread};
 ghost use Rattle.gin_vacuum.specs.Inner.Sweeping.{WasSpent, IsRemoval, HasCleaned, HasNextTree, GoesPast, HasGoneOn};
+ghost use Rattle.gin_vacuum.specs.Inner.HoldingNext.{HoldsNext, SweepsOn};
 ghost use Rattle.gin_vacuum.specs.Inner.Sweeping.{begun};
 ghost use Rattle.gin_vacuum.specs.declared.sweeping.Stage.TheVariants as stages;
 
 use crate::deleting::{Empty, delete_leaf};
 use crate::logging::{log_one, one_step};
 use buffer_frames::{Frames, Held, Pass};
-use core_maintenance::{found_stays, placing_keeps, ways_lead};
-use core_vacuum::{entries_stand, leaves_stand, vacuum_keeps, vacuum_steps_hold};
+use core_maintenance::ways_lead;
 use disk_trait::Disk;
 use gin_place::{PlaceError, hold_seen, release};
 use page_types::{Body, Entries, Kind, Page, PostingsRef};
@@ -170,21 +167,23 @@ fn roots_of(alloc: Global, entries: &Entries) -> Result<Vec<u32>, AllocError>
     Ok(roots)
 }
 
-/// What a leaf of the entry tree says; none of another page.
-fn read_leaf(alloc: Global, page: &Page, dead: &ItemSet) -> Result<Option<ReadLeaf>, AllocError>
-    requires { IsPage page.now }
-    ensures read { IfOk result (λ o. IfSome o (λ r. IsReadLeaf dead.now page.now r)) }
-    ensures none { IfOk result (λ o. IfNone o (IsEntryLeaf page.now.body → ⊥)) }
+/// What a leaf of the entry tree that is held says; another page is a bad one.
+fn read_leaf(alloc: Global, held: &Held, dead: &ItemSet) -> Result<ReadLeaf, PlaceError>
+    ensures read { IfOk result (IsReadLeaf dead.now held.now.content) }
+    ensures unread { IfErr result (IsUnread held.now IsEntryLeaf) }
 {
+    let page = held.page();
     let Body::EntryLeaf { entries, .. } = &page.body else {
-        return Ok(None);
+        return Err(PlaceError::BadPage {
+            page: held.number(),
+        });
     };
     let roots = roots_of(alloc, entries)?;
-    Ok(Some(ReadLeaf {
+    Ok(ReadLeaf {
         roots,
         link: page.right,
         cleaned: remove(alloc, page, dead)?,
-    }))
+    })
 }
 
 /// Whether a leaf of a posting tree has no items.
@@ -199,23 +198,25 @@ fn is_empty(page: &Page) -> bool
     }
 }
 
-/// What a leaf of a posting tree says; none of another page.
-fn read_posts(alloc: Global, page: &Page, dead: &ItemSet) -> Result<Option<ReadPosts>, AllocError>
-    requires { IsPage page.now }
-    ensures read { IfOk result (λ o. IfSome o (λ r. IsReadPosts dead.now page.now r)) }
-    ensures none { IfOk result (λ o. IfNone o (IsPostLeaf page.now.body → ⊥)) }
+/// What a leaf of a posting tree that is held says; another page is a bad one.
+fn read_posts(alloc: Global, held: &Held, dead: &ItemSet) -> Result<ReadPosts, PlaceError>
+    ensures read { IfOk result (IsReadPosts dead.now held.now.content) }
+    ensures unread { IfErr result (IsUnread held.now IsPostLeaf) }
 {
+    let page = held.page();
     let Body::PostLeaf { high, .. } = page.body else {
-        return Ok(None);
+        return Err(PlaceError::BadPage {
+            page: held.number(),
+        });
     };
     let cleaned = remove(alloc, page, dead)?;
     let empty = is_empty(cleaned.as_ref().unwrap_or(page));
-    Ok(Some(ReadPosts {
+    Ok(ReadPosts {
         high,
         link: page.right,
         cleaned,
         is_empty: empty,
-    }))
+    })
 }
 
 /// The child of a page of a posting tree on the way of an item; none of a page that has none.
@@ -252,7 +253,6 @@ fn log_cleaned<D: Disk>(
     ensures fine { OnOk result (MetNoFault D.Disk frames.old frames.new) }
     ensures fault { IfErr result (λ e. FaultBy D.Disk frames.old frames.new e) }
 {
-    vacuum_steps_hold();
     left_leaf_may_be_logged();
     let Some(page) = cleaned else {
         release(frames, pass, held);
@@ -286,7 +286,6 @@ fn hold_next<D: Disk>(
         × (suc r.1 ≡ unwrap_or left extent)) }
     ensures lower { IfOk result (λ r. r.1 < reads_left left) }
     ensures lies { IfOk result (λ r. Lies frames.old page r.0.content) }
-    ensures down { OnOk result (down_of frames.new.journal.wal ≡ down_of frames.old.journal.wal) }
 
     // The refusals: no page is held.
     ensures still { OnErr result (pass.new.held ≡ 0) }
@@ -297,7 +296,6 @@ fn hold_next<D: Disk>(
     ensures bad { (n : ℕ) → IsErrOf result (BadPage n) → (n ≡ page)
         × (CannotUse frames.old (λ c. ⊤) n ⊎ Finds D.Disk frames.old pass.old (WasSpent D.Disk left)) }
 {
-    found_stays();
     let (held, extent) = hold_seen(frames, pass, page)?;
     let left = left.unwrap_or(extent);
     if left == 0 {
@@ -319,6 +317,23 @@ impl Sweeping {
             link: 0,
             left: None,
             left_below: None,
+        }
+    }
+
+    /// The page that is read next, and how many more may be read of its tree; none where no dead item is left.
+    fn next(&self) -> Option<(u32, Option<u32>)>
+        ensures page { IfSome result (λ r. IsNext self.now.stage r.0) }
+        ensures left { IfSome result (λ r. r.1 ≡ left_of self.now self.now.stage) }
+        ensures some { IfSome result (λ r. self.now.stage ≢ stages.Done) }
+        ensures done { IfNone result (self.now.stage ≡ stages.Done) }
+    {
+        match self.stage {
+            Stage::Down { page } => Some((page, self.left)),
+            Stage::Leaf { page } => Some((page, self.left)),
+            Stage::TreeDown { page, .. } => Some((page, self.left_below)),
+            Stage::Posts { page, .. } => Some((page, self.left_below)),
+            Stage::Parent { page, left, .. } => Some((page, left)),
+            Stage::Done => None,
         }
     }
 
@@ -368,27 +383,23 @@ impl Sweeping {
         }
     }
 
-    /// Reads a page of the entry tree on the way to its first leaf.
+    /// Goes on from a page of the entry tree on the way to its first leaf.
     fn go_down<D: Disk>(
         &mut self,
         frames: &mut Frames<D>,
         pass: &mut Pass,
+        held: Held,
+        left: u32,
         page: u32,
     ) -> Result<(), PlaceError>
-        requires pass { IsPassOf frames.old pass.old }
-        requires right { HasRight pass.old }
-        requires none { pass.old.held ≡ 0 }
         requires stage { self.old.stage ≡ stages.Down page }
-        requires sweeping { (dead : List ℕ) × IsSweeping D.Disk frames.old pass.old dead self.old }
-        ensures swept { (dead : List ℕ) → IsSweeping D.Disk frames.old pass.old dead self.old
-            → HasSwept D.Disk frames.old pass.old frames.new pass.new dead self.old self.new result }
+        requires held { (dead : List ℕ)
+            × HoldsNext D.Disk frames.old pass.old dead self.old page self.old.left held left }
+        ensures swept { (dead : List ℕ) → SweepsOn D.Disk frames.old pass.old dead self.old page self.old.left
+            held left frames.new pass.new self.new result }
         ensures lower { OnOk result (steps_left self.new < steps_left self.old) }
     {
-        found_stays();
-        placing_keeps();
-        leaves_stand();
         ways_lead();
-        let (held, left) = hold_next(frames, pass, page, self.left)?;
         let next = way_on(held.page());
         release(frames, pass, held);
         match next {
@@ -413,31 +424,21 @@ impl Sweeping {
         frames: &mut Frames<D>,
         pass: &mut Pass,
         dead: &ItemSet,
-        page: u32,
+        held: Held,
+        left: u32,
     ) -> Result<(), PlaceError>
-        requires pass { IsPassOf frames.old pass.old }
-        requires right { HasRight pass.old }
-        requires none { pass.old.held ≡ 0 }
-        requires stage { self.old.stage ≡ stages.Leaf page }
-        requires sweeping { IsSweeping D.Disk frames.old pass.old dead.now self.old }
-        ensures swept { HasSwept D.Disk frames.old pass.old frames.new pass.new dead.now self.old self.new result }
+        requires stage { self.old.stage ≡ stages.Leaf held.page }
+        requires held { HoldsNext D.Disk frames.old pass.old dead.now self.old held.page self.old.left held left }
+        ensures swept { SweepsOn D.Disk frames.old pass.old dead.now self.old held.page self.old.left held left
+            frames.new pass.new self.new result }
         ensures lower { OnOk result (steps_left self.new < steps_left self.old) }
     {
-        placing_keeps();
-        leaves_stand();
-        entries_stand();
-        vacuum_keeps();
         ways_lead();
-        let (held, left) = hold_next(frames, pass, page, self.left)?;
-        let read = match read_leaf(alloc, held.page(), dead) {
-            Ok(Some(read)) => read,
-            Ok(None) => {
+        let read = match read_leaf(alloc, &held, dead) {
+            Ok(read) => read,
+            Err(error) => {
                 release(frames, pass, held);
-                return Err(PlaceError::BadPage { page });
-            }
-            Err(_) => {
-                release(frames, pass, held);
-                return Err(PlaceError::OutOfMemory);
+                return Err(error);
             }
         };
         let ReadLeaf {
@@ -454,28 +455,24 @@ impl Sweeping {
         Ok(())
     }
 
-    /// Reads a page of a posting tree on the way to its first leaf.
+    /// Goes on from a page of a posting tree on the way to its first leaf.
     fn go_down_tree<D: Disk>(
         &mut self,
         frames: &mut Frames<D>,
         pass: &mut Pass,
+        held: Held,
+        left: u32,
         root: u32,
         page: u32,
     ) -> Result<(), PlaceError>
-        requires pass { IsPassOf frames.old pass.old }
-        requires right { HasRight pass.old }
-        requires none { pass.old.held ≡ 0 }
         requires stage { self.old.stage ≡ stages.TreeDown root page }
-        requires sweeping { (dead : List ℕ) × IsSweeping D.Disk frames.old pass.old dead self.old }
-        ensures swept { (dead : List ℕ) → IsSweeping D.Disk frames.old pass.old dead self.old
-            → HasSwept D.Disk frames.old pass.old frames.new pass.new dead self.old self.new result }
+        requires held { (dead : List ℕ)
+            × HoldsNext D.Disk frames.old pass.old dead self.old page self.old.left_below held left }
+        ensures swept { (dead : List ℕ) → SweepsOn D.Disk frames.old pass.old dead self.old page
+            self.old.left_below held left frames.new pass.new self.new result }
         ensures lower { OnOk result (steps_left self.new < steps_left self.old) }
     {
-        found_stays();
-        placing_keeps();
-        leaves_stand();
         ways_lead();
-        let (held, left) = hold_next(frames, pass, page, self.left_below)?;
         let next = tree_way_on(held.page());
         release(frames, pass, held);
         match next {
@@ -504,34 +501,24 @@ impl Sweeping {
         frames: &mut Frames<D>,
         pass: &mut Pass,
         dead: &ItemSet,
+        held: Held,
+        left: u32,
         root: u32,
         before: u32,
-        page: u32,
     ) -> Result<(), PlaceError>
-        requires pass { IsPassOf frames.old pass.old }
-        requires right { HasRight pass.old }
-        requires none { pass.old.held ≡ 0 }
-        requires stage { self.old.stage ≡ stages.Posts root before page }
-        requires sweeping { IsSweeping D.Disk frames.old pass.old dead.now self.old }
-        ensures swept { HasSwept D.Disk frames.old pass.old frames.new pass.new dead.now self.old self.new result }
+        requires stage { self.old.stage ≡ stages.Posts root before held.page }
+        requires held { HoldsNext D.Disk frames.old pass.old dead.now self.old held.page self.old.left_below
+            held left }
+        ensures swept { SweepsOn D.Disk frames.old pass.old dead.now self.old held.page self.old.left_below
+            held left frames.new pass.new self.new result }
         ensures lower { OnOk result (steps_left self.new < steps_left self.old) }
     {
-        found_stays();
-        placing_keeps();
-        leaves_stand();
-        entries_stand();
         ways_lead();
-        vacuum_keeps();
-        let (held, left) = hold_next(frames, pass, page, self.left_below)?;
-        let read = match read_posts(alloc, held.page(), dead) {
-            Ok(Some(read)) => read,
-            Ok(None) => {
+        let read = match read_posts(alloc, &held, dead) {
+            Ok(read) => read,
+            Err(error) => {
                 release(frames, pass, held);
-                return Err(PlaceError::BadPage { page });
-            }
-            Err(_) => {
-                release(frames, pass, held);
-                return Err(PlaceError::OutOfMemory);
+                return Err(error);
             }
         };
         let ReadPosts {
@@ -540,6 +527,7 @@ impl Sweeping {
             cleaned,
             is_empty,
         } = read;
+        let page = held.number();
         log_cleaned(alloc, frames, pass, held, cleaned)?;
         let leaf = Empty {
             root,
@@ -553,30 +541,26 @@ impl Sweeping {
         Ok(())
     }
 
-    /// Reads a page of a posting tree on the way to the parent of an empty leaf, which goes there, unless
-    /// it is the last child.
+    /// Goes on from a page of a posting tree on the way to the parent of an empty leaf, which goes there,
+    /// unless it is the last child.
     fn seek_parent<D: Disk>(
         &mut self,
         alloc: Global,
         frames: &mut Frames<D>,
         pass: &mut Pass,
+        held: Held,
+        left: u32,
         empty: Empty,
         page: u32,
-        left: Option<u32>,
     ) -> Result<(), PlaceError>
-        requires pass { IsPassOf frames.old pass.old }
-        requires right { HasRight pass.old }
-        requires none { pass.old.held ≡ 0 }
-        requires stage { self.old.stage ≡ stages.Parent empty page left }
-        requires sweeping { (dead : List ℕ) × IsSweeping D.Disk frames.old pass.old dead self.old }
-        ensures swept { (dead : List ℕ) → IsSweeping D.Disk frames.old pass.old dead self.old
-            → HasSwept D.Disk frames.old pass.old frames.new pass.new dead self.old self.new result }
+        requires held { (dead : List ℕ) × (before : Option ℕ) × (self.old.stage ≡ stages.Parent empty page before)
+            × HoldsNext D.Disk frames.old pass.old dead self.old page before held left }
+        ensures swept { (dead : List ℕ) (before : Option ℕ) → self.old.stage ≡ stages.Parent empty page before
+            → SweepsOn D.Disk frames.old pass.old dead self.old page before held left frames.new pass.new
+            self.new result }
         ensures lower { OnOk result (steps_left self.new < steps_left self.old) }
     {
-        found_stays();
-        placing_keeps();
         ways_lead();
-        let (held, left) = hold_next(frames, pass, page, left)?;
         let Some(child) = child_toward(held.page(), empty.high) else {
             release(frames, pass, held);
             return Err(PlaceError::BadPage { page });
@@ -612,10 +596,6 @@ impl Sweeping {
             → HasSwept D.Disk frames.old pass.old frames.new pass.new dead self.old self.new result }
         ensures lower { OnOk result (steps_left self.new < steps_left self.old) }
     {
-        placing_keeps();
-        leaves_stand();
-        entries_stand();
-        vacuum_keeps();
         match unlink(parent.page(), empty.page) {
             Ok(Some(without)) => {
                 delete_leaf(alloc, frames, pass, parent, without, empty)?;
@@ -634,40 +614,37 @@ impl Sweeping {
         }
     }
 
-    /// Whether no dead item is in the trees.
-    fn is_done(&self) -> bool
-        ensures { (result ≡ true) ↔ (self.now.stage ≡ stages.Done) }
-    {
-        matches!(self.stage, Stage::Done)
-    }
-
-    /// Reads a page, and logs a record where one is due.
+    /// Goes on from the page that is read next, which is held, and logs a record where one is due.
     fn work<D: Disk>(
         &mut self,
         alloc: Global,
         frames: &mut Frames<D>,
         pass: &mut Pass,
         dead: &ItemSet,
+        held: Held,
+        left: u32,
     ) -> Result<(), PlaceError>
-        requires pass { IsPassOf frames.old pass.old }
-        requires right { HasRight pass.old }
-        requires none { pass.old.held ≡ 0 }
         requires not_done { self.old.stage ≢ stages.Done }
-        requires sweeping { IsSweeping D.Disk frames.old pass.old dead.now self.old }
-        ensures swept { HasSwept D.Disk frames.old pass.old frames.new pass.new dead.now self.old self.new result }
+        requires next { IsNext self.old.stage held.page }
+        requires held { HoldsNext D.Disk frames.old pass.old dead.now self.old held.page
+            (left_of self.old self.old.stage) held left }
+        ensures swept { SweepsOn D.Disk frames.old pass.old dead.now self.old held.page
+            (left_of self.old self.old.stage) held left frames.new pass.new self.new result }
         ensures lower { OnOk result (steps_left self.new < steps_left self.old) }
     {
         match self.stage {
-            Stage::Down { page } => self.go_down(frames, pass, page),
-            Stage::Leaf { page } => self.clean_leaf(alloc, frames, pass, dead, page),
-            Stage::TreeDown { root, page } => self.go_down_tree(frames, pass, root, page),
-            Stage::Posts { root, before, page } => {
-                self.clean_posts(alloc, frames, pass, dead, root, before, page)
+            Stage::Down { page } => self.go_down(frames, pass, held, left, page),
+            Stage::Leaf { .. } => self.clean_leaf(alloc, frames, pass, dead, held, left),
+            Stage::TreeDown { root, page } => {
+                self.go_down_tree(frames, pass, held, left, root, page)
             }
-            Stage::Parent { empty, page, left } => {
-                self.seek_parent(alloc, frames, pass, empty, page, left)
+            Stage::Posts { root, before, .. } => {
+                self.clean_posts(alloc, frames, pass, dead, held, left, root, before)
             }
-            Stage::Done => Ok(()),
+            Stage::Parent { empty, page, .. } => {
+                self.seek_parent(alloc, frames, pass, held, left, empty, page)
+            }
+            Stage::Done => unreachable!(),
         }
     }
 
@@ -687,12 +664,13 @@ impl Sweeping {
         ensures ends { IfOk result (λ more. (more ≡ false) ↔ (self.new.stage ≡ stages.Done)) }
         ensures lower { IfOk result (λ more. more ≡ true → steps_left self.new < steps_left self.old) }
     {
-        placing_keeps();
-        if self.is_done() {
+        ways_lead();
+        let Some((page, before)) = self.next() else {
             return Ok(false);
-        }
-        self.work(alloc, frames, pass, dead)?;
-        Ok(!self.is_done())
+        };
+        let (held, left) = hold_next(frames, pass, page, before)?;
+        self.work(alloc, frames, pass, dead, held, left)?;
+        Ok(self.next().is_some())
     }
 }
 
@@ -721,7 +699,6 @@ pub fn sweep<D: Disk>(
     ensures fine { OnOk result (MetNoFault D.Disk frames.old frames.new) }
     ensures fault { IfErr result (λ e. FaultBy D.Disk frames.old frames.new e) }
 {
-    placing_keeps();
     if dead.items().is_empty() {
         return Ok(());
     }

@@ -1,8 +1,7 @@
 // Which dead items no row of the pending list has.
-ghost use Rattle.std.specs.Prelude.{◌≡◌, ◌≢◌, ◌↔◌, ◌⊎◌, ℕ, suc, ◌<◌, List, [], Option, IfSome, IfNone, IfOk, IfErr};
-ghost use Rattle.std.specs.Prelude.{OnOk, OnErr};
+ghost use Rattle.std.specs.Prelude.{◌≡◌, ◌≢◌, ℕ, suc, ◌<◌, List, [], Option, IfSome, IfNone, IfOk, IfErr};
+ghost use Rattle.std.specs.Prelude.{OnOk};
 ghost use Rattle.page_types.specs.declared.page.Body.TheVariants as body;
-ghost use Rattle.core_state.specs.Log.{In};
 ghost use Rattle.buffer_frames.specs.Passes.{IsPassOf};
 ghost use Rattle.gin_place.specs.Placing.{HasRight};
 ghost use Rattle.gin_place.specs.Causes.{Finds, NoBadPage};
@@ -14,7 +13,6 @@ ghost use Rattle.gin_vacuum.specs.Inner.Unlinked.{HaveMet, AreOthers, IsWalk, Ha
 
 use buffer_frames::{Frames, Pass};
 use core_maintenance::placing_keeps;
-use core_state::{pages_hold, steady_hold};
 use disk_trait::Disk;
 use gin_place::{PlaceError, hold_seen, release};
 use page_types::{Body, Page, Rows};
@@ -94,8 +92,6 @@ impl Walk {
         ensures fault { IfErr result (λ e. FaultBy D.Disk frames.old frames.new e) }
     {
         placing_keeps();
-        steady_hold();
-        pages_hold();
         let (meta, _) = hold_seen(frames, pass, META_PAGE)?;
         let named = first_of(meta.page());
         release(frames, pass, meta);
@@ -149,8 +145,6 @@ impl Walk {
         ensures fault { IfErr result (λ e. FaultBy D.Disk frames.old frames.new e) }
     {
         placing_keeps();
-        steady_hold();
-        pages_hold();
         let page = self.page;
         let (held, _) = hold_seen(frames, pass, page)?;
         let noted = self.note(held.page(), dead);
@@ -185,7 +179,6 @@ pub fn without_rows<D: Disk>(
     ensures fine { OnOk result (MetNoFault D.Disk frames.old frames.new) }
     ensures fault { IfErr result (λ e. FaultBy D.Disk frames.old frames.new e) }
 {
-    steady_hold();
     if dead.items().is_empty() {
         return Ok(ItemSet::new(Vec::new(alloc)));
     }

@@ -9,11 +9,14 @@ use Rattle.page_types.specs.declared.page.Postings.TheVariants.{Root}
 use Rattle.page_types.specs.declared.page.Body.{Body}
 use Rattle.page_types.specs.declared.page.Body.TheVariants as body
 use Rattle.core_state.specs.Log.{In}
+use Rattle.core_state.specs.Allowed.{Sheet}
 use Rattle.entry_tree.specs.Reading as entries
 use Rattle.entry_tree.specs.Adding.{IsEntryLeaf}
 use Rattle.posting_tree.specs.Reading as posts
 use Rattle.posting_tree.specs.Adding.{IsPostLeaf}
 use Rattle.posting_tree.specs.Removing.{IsLeafLeft, IsListed}
+use Rattle.gin_place.specs.declared.error.PlaceError.{PlaceError}
+use Rattle.gin_place.specs.declared.error.PlaceError.TheVariants.{BadPage, OutOfMemory}
 use Rattle.gin_vacuum.specs.declared.sweeping.Below.{Below}
 use Rattle.gin_vacuum.specs.declared.sweeping.Below.TheVariants as below
 use Rattle.gin_vacuum.specs.declared.sweeping.ReadLeaf.{ReadLeaf}
@@ -49,14 +52,21 @@ body_after page None = page.body
 body_after page (Some p) = p.body
 
 pub record IsReadLeaf (dead : List ℕ) (page : Page) (r : ReadLeaf) : Type 0 where
+  pub is_page : IsPage page
   pub leaf : IsEntryLeaf page.body
   pub roots : AreRoots (entries_in page.body) r.roots.items
   pub link : r.link ≡ page.right
   pub cleaned : IsCleaned dead page r.cleaned
 
 pub record IsReadPosts (dead : List ℕ) (page : Page) (r : ReadPosts) : Type 0 where
+  pub is_page : IsPage page
   pub list : List ℕ
   pub leaf : page.body ≡ body.PostLeaf r.high list
   pub link : r.link ≡ page.right
   pub cleaned : IsCleaned dead page r.cleaned
   pub empty : (r.is_empty ≡ true) ↔ (posting_items_in (body_after page r.cleaned) ≡ [])
+
+-- why a page that is held is not read: it is none of these leaves, or memory ran out
+pub data IsUnread (held : Sheet) (IsLeaf : Body → Type 0) : PlaceError → Type 0 where
+  other : IsPage held.content → (IsLeaf held.content.body → ⊥) → IsUnread held IsLeaf (BadPage held.page)
+  memory : IsUnread held IsLeaf OutOfMemory

@@ -1,4 +1,6 @@
 use Rattle.std.proofs.Common.{[], ◌∷◌}
+use Rattle.core_vacuum.proofs.FirstLeaves.{leaves_hold}
+use Rattle.core_vacuum.proofs.Logging.{delete_post_may}
 use Rattle.gin_place.specs.Causes.{Finds}
 use Rattle.gin_place.specs.Faults.{MetNoFault, FaultBy}
 use Rattle.gin_place.specs.Holding.{ReadsOn}
@@ -27,7 +29,7 @@ log_around-requires g c =
     may_delete g.D.Disk f1 p1 works.is_pass right c.args.empty c.args.parent c.in-Ok.around e.around e.holding
     c.args.without c.requires.without c.in-Ok-delete_step.step c.in-Ok-delete_step.ensures.step
     (found_on g.D.Disk f f1 p p1 c.requires.right c.requires.pass works (c.args.parent ∷ []) c.requires.holding
-    c.args.empty c.requires.found) c.vacuum_steps_hold.ensures.delete_post c.leaves_stand.ensures
+    c.args.empty c.requires.found) delete_post_may leaves_hold
 
 pub returns-in-Ok-delete_step-clause-logged : goal.returns-in-Ok-delete_step-clause-logged
 returns-in-Ok-delete_step-clause-logged g c =

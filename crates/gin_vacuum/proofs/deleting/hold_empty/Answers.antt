@@ -1,11 +1,11 @@
-use Rattle.std.proofs.Common.{◌∙◌, refl, sym, subst}
+use Rattle.std.proofs.Common.{◌∙◌, refl, sym, subst, []}
 use Rattle.std.proofs.lemmas.Result.{err_from_is_err_and}
 use Rattle.std.proofs.lemmas.Bool.{false≢true}
 use Rattle.buffer_frames.specs.Frames.{Lies}
 use Rattle.gin_place.specs.Causes.{Finds, CannotUse}
 use Rattle.gin_place.specs.Faults.{FaultBy}
 use Rattle.gin_place.specs.declared.error.PlaceError.TheVariants.{BadPage}
-use Rattle.gin_place.proofs.Carrying.{reads_in_turn}
+use Rattle.gin_place.proofs.Carrying.{reads_in_turn, right_on}
 use Rattle.gin_place.proofs.Causing.{at_exit, finds_now, weaker}
 use Rattle.gin_place.proofs.Faults.{calm_fine, fine_then}
 use Rattle.gin_vacuum.specs.Stepping.{IsCause, IsEmptyPage}
@@ -56,3 +56,30 @@ returns-in_err-leaf-clause-fault g c =
     let r = err_from_is_err_and c.from_residual.result c.from_residual.ensures.1 in
     at_exit (λ x. FaultBy g.D.Disk c.args.frames.now c.hold_page.new.frames x) c.from_residual.result r.0
     c.in_err-leaf.field-0.0 r.1 r.2 c.in_err-leaf.ensures.fault
+
+pub release-requires : goal.release-requires
+release-requires g c =
+    record {
+      pass = c.hold_page.ensures.reads.works.is_pass;
+      right = right_on g.D.Disk c.args.frames.now c.hold_page.new.frames c.args.pass.now c.hold_page.new.pass [] c.requires.right
+          c.hold_page.ensures.reads.works;
+      holding = (c.requires.holding.0, c.in_ok-leaf.ensures.holding c.requires.holding.0 c.requires.holding.1);
+    }
+
+pub returns-then-not-is_empty_leaf-clause-still : goal.returns-then-not-is_empty_leaf-clause-still
+returns-then-not-is_empty_leaf-clause-still g c =
+    let held = c.requires.holding.0 in
+    let h = c.requires.holding.1 in
+    record {
+      holding = λ other o. c.release.ensures.holding other (c.in_ok-leaf.ensures.holding other o);
+      held = sym (c.release.ensures.holding held (c.in_ok-leaf.ensures.holding held h)).all ∙ h.all;
+    }
+
+pub returns-clause-holding : goal.returns-clause-holding
+returns-clause-holding g c = λ held h. c.in_ok-leaf.ensures.holding held h
+
+pub returns-clause-leaf : goal.returns-clause-leaf
+returns-clause-leaf g c = (
+  c.in_ok-leaf.ensures.number,
+  subst (IsEmptyPage c.args.empty) c.page.ensures.value (c.is_empty_leaf.ensures.0 c.if-not-is_empty_leaf.false),
+)

@@ -1,6 +1,8 @@
 use Rattle.std.proofs.Common.{suc, [], ◌∷◌, sym, subst, ◌∙◌, arith}
 use Rattle.std.proofs.lemmas.Result.{err_from_is_err_and}
 use Rattle.page_types.specs.Pages.{IsPage}
+use Rattle.core_maintenance.proofs.Found.{right_keeps_found}
+use Rattle.core_state.proofs.LawsHold.{steady, documents, pages}
 use Rattle.buffer_frames.specs.Frames.{Lies}
 use Rattle.buffer_frames.proofs.AtHand.{none_held}
 use Rattle.gin_place.specs.Causes.{Finds, CannotUse}
@@ -14,22 +16,16 @@ use Rattle.gin_place.proofs.Running.{calm_goes}
 use Rattle.gin_vacuum.specs.Causes.{IsHeap, CannotRead}
 use Rattle.gin_vacuum.proofs.DeadSlots.{not_true}
 use Rattle.gin_vacuum.proofs.HeapCauses.{bad_heap, read_cause}
-use Rattle.gin_vacuum.proofs.ReadHeap.{found_still, found_next, answer_of}
+use Rattle.gin_vacuum.proofs.ReadHeap.{found_next, answer_of}
 use Rattle.gin_vacuum.proofs.Taken.{is_before}
 use Rattle.gin_vacuum.proofs.finding.read_dead.Goals as goal
 
 pub release-requires-clause-holding : goal.release-requires-clause-holding
 release-requires-clause-holding g c = (
   [],
-  c.in_ok-held.ensures.holding [] (none_held g.D.Disk c.args.frames.now c.args.pass.now c.requires.pass c.requires.none),
+  c.in_ok-held.ensures.holding []
+      (none_held g.D.Disk c.args.frames.now c.args.pass.now c.requires.pass c.requires.none),
 )
-
-pub returns-then-not-is_heap-clause-still : goal.returns-then-not-is_heap-clause-still
-returns-then-not-is_heap-clause-still g c = λ from floor next items x.
-    found_still g.D.Disk c.steady_hold.ensures c.args.frames.now c.release.new.frames c.args.pass.now c.release.new.pass
-    c.requires.pass c.requires.right c.requires.none
-    (reads_in_turn g.D.Disk c.args.frames.now c.hold_page.new.frames c.release.new.frames c.args.pass.now
-    c.hold_page.new.pass c.release.new.pass c.hold_page.ensures.reads c.release.ensures.reads) from floor next items x
 
 pub returns-then-not-is_heap-clause-reads : goal.returns-then-not-is_heap-clause-reads
 returns-then-not-is_heap-clause-reads g c =
@@ -52,7 +48,7 @@ returns-then-not-is_heap-clause-cause g c =
     (sym same)
     (finds_now g.D.Disk c.args.frames.now c.args.pass.now
     (CannotRead g.D.Disk c.release.new.frames (BadPage c.args.page)) c.requires.pass
-    (bad_heap g.D.Disk c.pages_hold.ensures c.args.frames.now c.args.pass.now c.requires.finding.0 c.requires.finding.1
+    (bad_heap g.D.Disk pages c.args.frames.now c.args.pass.now c.requires.finding.0 c.requires.finding.1
     c.args.page c.requires.finding.2 c.requires.finding.3
     (CannotUse.other c.page.result.now c.page.ensures.is_page lies off)))
 
@@ -67,7 +63,7 @@ release-requires-2-clause-right g c =
     let h = c.hold_page.ensures in
     let to = reads_in_turn g.D.Disk c.args.frames.now c.hold_page.new.frames c.look-found.new.self c.args.pass.now
     c.hold_page.new.pass c.look-found.new.pass h.reads
-    (reads_by g.D.Disk c.found_stays.ensures.right c.hold_page.new.frames c.look-found.new.self c.hold_page.new.pass
+    (reads_by g.D.Disk right_keeps_found c.hold_page.new.frames c.look-found.new.self c.hold_page.new.pass
     c.look-found.new.pass h.reads.works.is_pass
     (right_on g.D.Disk c.args.frames.now c.hold_page.new.frames c.args.pass.now c.hold_page.new.pass [] c.requires.right
     h.reads.works) e.added e.sees_on e.rises e.pass e.keeps.pin e.keeps.room e.keeps.xid e.keeps.work e.pins
@@ -82,13 +78,6 @@ release-requires-2-clause-holding g c =
     c.requires.none)) in
     ([], holds)
 
-pub returns-in_err-held-clause-still : goal.returns-in_err-held-clause-still
-returns-in_err-held-clause-still g c =
-    λ from floor next items x.
-    found_still g.D.Disk c.steady_hold.ensures c.args.frames.now c.hold_page.new.frames c.args.pass.now
-    c.hold_page.new.pass c.requires.pass c.requires.right c.requires.none c.hold_page.ensures.reads from floor next
-    items x
-
 pub returns-in_err-held-clause-none_held : goal.returns-in_err-held-clause-none_held
 returns-in_err-held-clause-none_held g c =
     c.in_err-held.ensures.still.held ∙ c.requires.none
@@ -101,7 +90,7 @@ returns-in_err-held-clause-cause g c =
     c.from_residual.result p.0 w p.1 p.2
     (finds_now g.D.Disk c.args.frames.now c.args.pass.now (CannotRead g.D.Disk c.hold_page.new.frames w)
     c.requires.pass
-    (read_cause g.D.Disk c.pages_hold.ensures c.hold_page.new.frames c.args.frames.now c.args.pass.now
+    (read_cause g.D.Disk pages c.hold_page.new.frames c.args.frames.now c.args.pass.now
     c.requires.finding.0 c.requires.finding.1 c.args.page c.requires.finding.2 c.requires.finding.3 w
     c.in_err-held.ensures.cause))
 
@@ -111,30 +100,13 @@ returns-in_err-held-clause-fault g c =
     at_exit (λ x. FaultBy g.D.Disk c.args.frames.now c.hold_page.new.frames x) c.from_residual.result p.0
     c.in_err-held.field-0.0 p.1 p.2 c.in_err-held.ensures.fault
 
-pub returns-in-Err-clause-still : goal.returns-in-Err-clause-still
-returns-in-Err-clause-still g c =
-    let e = c.look-found.ensures in
-    let h = c.hold_page.ensures in
-    let to = reads_in_turn g.D.Disk c.args.frames.now c.hold_page.new.frames c.look-found.new.self c.args.pass.now
-    c.hold_page.new.pass c.look-found.new.pass h.reads
-    (reads_by g.D.Disk c.found_stays.ensures.right c.hold_page.new.frames c.look-found.new.self c.hold_page.new.pass
-    c.look-found.new.pass h.reads.works.is_pass
-    (right_on g.D.Disk c.args.frames.now c.hold_page.new.frames c.args.pass.now c.hold_page.new.pass [] c.requires.right
-    h.reads.works) e.added e.sees_on e.rises e.pass e.keeps.pin e.keeps.room e.keeps.xid e.keeps.work e.pins
-    (calm_goes g.D.Disk e.calm e.state e.added e.runs_on e.begins)) in
-    let all = reads_in_turn g.D.Disk c.args.frames.now c.look-found.new.self c.release-2.new.frames c.args.pass.now
-    c.look-found.new.pass c.release-2.new.pass to c.release-2.ensures.reads in
-    λ from floor next items x.
-    found_still g.D.Disk c.steady_hold.ensures c.args.frames.now c.release-2.new.frames c.args.pass.now c.release-2.new.pass
-    c.requires.pass c.requires.right c.requires.none all from floor next items x
-
 pub returns-in-Err-clause-reads : goal.returns-in-Err-clause-reads
 returns-in-Err-clause-reads g c =
     let e = c.look-found.ensures in
     let h = c.hold_page.ensures in
     let to = reads_in_turn g.D.Disk c.args.frames.now c.hold_page.new.frames c.look-found.new.self c.args.pass.now
     c.hold_page.new.pass c.look-found.new.pass h.reads
-    (reads_by g.D.Disk c.found_stays.ensures.right c.hold_page.new.frames c.look-found.new.self c.hold_page.new.pass
+    (reads_by g.D.Disk right_keeps_found c.hold_page.new.frames c.look-found.new.self c.hold_page.new.pass
     c.look-found.new.pass h.reads.works.is_pass
     (right_on g.D.Disk c.args.frames.now c.hold_page.new.frames c.args.pass.now c.hold_page.new.pass [] c.requires.right
     h.reads.works) e.added e.sees_on e.rises e.pass e.keeps.pin e.keeps.room e.keeps.xid e.keeps.work e.pins
@@ -150,30 +122,13 @@ returns-in-Err-clause-none_held g c =
     c.requires.none)) in
     sym (c.release-2.ensures.holding [] holds).all
 
-pub returns-in-Ok-Err-clause-still : goal.returns-in-Ok-Err-clause-still
-returns-in-Ok-Err-clause-still g c =
-    let e = c.look-found.ensures in
-    let h = c.hold_page.ensures in
-    let to = reads_in_turn g.D.Disk c.args.frames.now c.hold_page.new.frames c.look-found.new.self c.args.pass.now
-    c.hold_page.new.pass c.look-found.new.pass h.reads
-    (reads_by g.D.Disk c.found_stays.ensures.right c.hold_page.new.frames c.look-found.new.self c.hold_page.new.pass
-    c.look-found.new.pass h.reads.works.is_pass
-    (right_on g.D.Disk c.args.frames.now c.hold_page.new.frames c.args.pass.now c.hold_page.new.pass [] c.requires.right
-    h.reads.works) e.added e.sees_on e.rises e.pass e.keeps.pin e.keeps.room e.keeps.xid e.keeps.work e.pins
-    (calm_goes g.D.Disk e.calm e.state e.added e.runs_on e.begins)) in
-    let all = reads_in_turn g.D.Disk c.args.frames.now c.look-found.new.self c.release-2.new.frames c.args.pass.now
-    c.look-found.new.pass c.release-2.new.pass to c.release-2.ensures.reads in
-    λ from floor next items x.
-    found_still g.D.Disk c.steady_hold.ensures c.args.frames.now c.release-2.new.frames c.args.pass.now c.release-2.new.pass
-    c.requires.pass c.requires.right c.requires.none all from floor next items x
-
 pub returns-in-Ok-Err-clause-reads : goal.returns-in-Ok-Err-clause-reads
 returns-in-Ok-Err-clause-reads g c =
     let e = c.look-found.ensures in
     let h = c.hold_page.ensures in
     let to = reads_in_turn g.D.Disk c.args.frames.now c.hold_page.new.frames c.look-found.new.self c.args.pass.now
     c.hold_page.new.pass c.look-found.new.pass h.reads
-    (reads_by g.D.Disk c.found_stays.ensures.right c.hold_page.new.frames c.look-found.new.self c.hold_page.new.pass
+    (reads_by g.D.Disk right_keeps_found c.hold_page.new.frames c.look-found.new.self c.hold_page.new.pass
     c.look-found.new.pass h.reads.works.is_pass
     (right_on g.D.Disk c.args.frames.now c.hold_page.new.frames c.args.pass.now c.hold_page.new.pass [] c.requires.right
     h.reads.works) e.added e.sees_on e.rises e.pass e.keeps.pin e.keeps.room e.keeps.xid e.keeps.work e.pins
@@ -189,30 +144,13 @@ returns-in-Ok-Err-clause-none_held g c =
     c.requires.none)) in
     sym (c.release-2.ensures.holding [] holds).all
 
-pub returns-in-Ok-Ok-clause-still : goal.returns-in-Ok-Ok-clause-still
-returns-in-Ok-Ok-clause-still g c =
-    let e = c.look-found.ensures in
-    let h = c.hold_page.ensures in
-    let to = reads_in_turn g.D.Disk c.args.frames.now c.hold_page.new.frames c.look-found.new.self c.args.pass.now
-    c.hold_page.new.pass c.look-found.new.pass h.reads
-    (reads_by g.D.Disk c.found_stays.ensures.right c.hold_page.new.frames c.look-found.new.self c.hold_page.new.pass
-    c.look-found.new.pass h.reads.works.is_pass
-    (right_on g.D.Disk c.args.frames.now c.hold_page.new.frames c.args.pass.now c.hold_page.new.pass [] c.requires.right
-    h.reads.works) e.added e.sees_on e.rises e.pass e.keeps.pin e.keeps.room e.keeps.xid e.keeps.work e.pins
-    (calm_goes g.D.Disk e.calm e.state e.added e.runs_on e.begins)) in
-    let all = reads_in_turn g.D.Disk c.args.frames.now c.look-found.new.self c.release-2.new.frames c.args.pass.now
-    c.look-found.new.pass c.release-2.new.pass to c.release-2.ensures.reads in
-    λ from floor next items x.
-    found_still g.D.Disk c.steady_hold.ensures c.args.frames.now c.release-2.new.frames c.args.pass.now c.release-2.new.pass
-    c.requires.pass c.requires.right c.requires.none all from floor next items x
-
 pub returns-in-Ok-Ok-clause-reads : goal.returns-in-Ok-Ok-clause-reads
 returns-in-Ok-Ok-clause-reads g c =
     let e = c.look-found.ensures in
     let h = c.hold_page.ensures in
     let to = reads_in_turn g.D.Disk c.args.frames.now c.hold_page.new.frames c.look-found.new.self c.args.pass.now
     c.hold_page.new.pass c.look-found.new.pass h.reads
-    (reads_by g.D.Disk c.found_stays.ensures.right c.hold_page.new.frames c.look-found.new.self c.hold_page.new.pass
+    (reads_by g.D.Disk right_keeps_found c.hold_page.new.frames c.look-found.new.self c.hold_page.new.pass
     c.look-found.new.pass h.reads.works.is_pass
     (right_on g.D.Disk c.args.frames.now c.hold_page.new.frames c.args.pass.now c.hold_page.new.pass [] c.requires.right
     h.reads.works) e.added e.sees_on e.rises e.pass e.keeps.pin e.keeps.room e.keeps.xid e.keeps.work e.pins
@@ -274,7 +212,7 @@ returns-in-Ok-Ok-clause-dead g c =
     let h = c.hold_page.ensures in
     let to = reads_in_turn g.D.Disk c.args.frames.now c.hold_page.new.frames c.look-found.new.self c.args.pass.now
     c.hold_page.new.pass c.look-found.new.pass h.reads
-    (reads_by g.D.Disk c.found_stays.ensures.right c.hold_page.new.frames c.look-found.new.self c.hold_page.new.pass
+    (reads_by g.D.Disk right_keeps_found c.hold_page.new.frames c.look-found.new.self c.hold_page.new.pass
     c.look-found.new.pass h.reads.works.is_pass
     (right_on g.D.Disk c.args.frames.now c.hold_page.new.frames c.args.pass.now c.hold_page.new.pass [] c.requires.right
     h.reads.works) e.added e.sees_on e.rises e.pass e.keeps.pin e.keeps.room e.keeps.xid e.keeps.work e.pins
@@ -298,8 +236,8 @@ returns-in-Ok-Ok-clause-dead g c =
     let heap : IsHeap c.in_ok-held.held.content =
     subst IsHeap c.page.ensures.value ((c.is_heap.ensures).0 c.if-not-is_heap.false) in
     λ from floor had was.
-    found_next g.D.Disk c.steady_hold.ensures c.args.frames.now c.look-found.new.self c.args.pass.now
-    c.look-found.new.pass c.requires.pass c.requires.right c.requires.none to c.documents_hold.ensures.documents
+    found_next g.D.Disk steady c.args.frames.now c.look-found.new.self c.args.pass.now
+    c.look-found.new.pass c.requires.pass c.requires.right c.requires.none to documents
     c.release-2.new.frames c.release-2.new.pass c.release-2.ensures.reads c.in_ok-held.held holds
     c.in-Ok-Ok.ensures.all c.in-Ok-Ok.ensures.seen fits heap found.items.items told.0 found.next told.1 c.args.page
     c.in_ok-held.ensures.number from floor had was

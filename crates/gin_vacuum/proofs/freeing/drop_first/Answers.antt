@@ -3,6 +3,8 @@ use Rattle.std.specs.Prelude.{Option, IfSome, IfNone}
 use Rattle.std.proofs.lemmas.Result.{err_from_is_err_and}
 use Rattle.page_types.specs.Pages.{IsPage}
 use Rattle.core_state.specs.Allowed.{Sheet, Step}
+use Rattle.core_vacuum.proofs.Logging.{drop_page_may}
+use Rattle.doc_heap.proofs.Leavings.{slot_is_head}
 use Rattle.buffer_frames.proofs.Exits.{on_refusal}
 use Rattle.gin_place.specs.Causes.{Finds, CannotUse}
 use Rattle.gin_place.specs.Faults.{MetNoFault, FaultBy}
@@ -42,10 +44,10 @@ log_both-requires g c =
     let serial : c.args.found.serial < 2 ^ 64 = omega arith in
     may_drop g.D.Disk l q to.is_pass (right_on g.D.Disk f l p q [] c.requires.right to) both.heap step both.page
     c.args.found e.holding is (subst (λ (s : Sheet). IsChained s.content c.args.found) (sym e.both.0) c.requires.found)
-    (ap (λ (s : Sheet). s.page) e.both.0 ∙ c.requires.page) e.both.1 c.slots_are_heads.ensures
+    (ap (λ (s : Sheet). s.page) e.both.0 ∙ c.requires.page) e.both.1 slot_is_head
     (c.requires.item, serial)
     (item_on g.D.Disk f l p q (c.args.heap ∷ []) c.requires.holding c.requires.pass c.requires.right to
-    c.args.found.item c.requires.out) c.vacuum_steps_hold.ensures.drop_page
+    c.args.found.item c.requires.out) drop_page_may
 
 pub returns-in-Ok-Some-clause-logged : goal.returns-in-Ok-Some-clause-logged
 returns-in-Ok-Some-clause-logged g c =

@@ -1,6 +1,7 @@
 use Rattle.std.proofs.Common.{[], sym, subst}
 use Rattle.std.specs.Prelude.{Option, IfSome}
 use Rattle.core_state.specs.Allowed.{Step}
+use Rattle.core_vacuum.proofs.Logging.{free_slots_may}
 use Rattle.gin_place.specs.Causes.{Finds}
 use Rattle.gin_place.proofs.Causing.{finds_now}
 use Rattle.gin_place.proofs.Exits.{if_err}
@@ -18,7 +19,7 @@ log_one-requires g c =
     c.in-Ok-Some.ensures.step in
     may_free g.D.Disk c.args.frames.now c.args.pass.now c.requires.pass c.requires.right c.args.heap
     c.in-Ok-Some.step c.args.items.now c.requires.holding is c.requires.page c.requires.bare c.requires.out
-    c.vacuum_steps_hold.ensures.free_slots
+    free_slots_may
 
 pub returns-in-Ok-Some-clause-cause : goal.returns-in-Ok-Some-clause-cause
 returns-in-Ok-Some-clause-cause g c =

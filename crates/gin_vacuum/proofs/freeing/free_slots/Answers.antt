@@ -1,5 +1,6 @@
 use Rattle.std.proofs.Common.{◌≡◌, [], ◌++◌, false, rules}
 use Rattle.std.proofs.lemmas.Result.{err_from_is_err_and}
+use Rattle.core_state.proofs.LawsHold.{documents}
 use Rattle.gin_place.specs.Faults.{FaultBy}
 use Rattle.gin_place.specs.declared.error.PlaceError.{PlaceError}
 use Rattle.gin_place.specs.declared.error.PlaceError.TheVariants.{OutOfMemory}
@@ -22,7 +23,7 @@ loop-init g c =
       works = (
         [],
         tt,
-        reads_vacuum g.D.Disk c.placing_keeps.ensures.history f f p p
+        reads_vacuum g.D.Disk f f p p
             (reads_still g.D.Disk f p c.requires.pass (same_added g.D.Disk f)).works,
       );
       none_held = c.requires.none;
@@ -49,7 +50,7 @@ loop-preserved g c =
       works = (
         was.works.0 ++ h.works.0,
         all_then IsFreeKind was.works.0 h.works.0 was.works.1 h.works.2,
-        vacuums_in_turn g.D.Disk c.placing_keeps.ensures.history c.args.frames.now c.loop.frames c.step.new.frames
+        vacuums_in_turn g.D.Disk c.args.frames.now c.loop.frames c.step.new.frames
             c.args.pass.now c.loop.pass c.step.new.pass was.works.0 h.works.0 was.works.2 h.works.3,
       );
       none_held = h.none_held;
@@ -63,7 +64,7 @@ pub returns-then-not-more-clause-freed : goal.returns-then-not-more-clause-freed
 returns-then-not-more-clause-freed g c =
     let h = c.in_ok-more.ensures c.args.pass.now.seen c.loop.invariant.freeing in
     let no : c.in_ok-more.more ≡ false = search (rules, c.if-not-more.true) in
-    freed_since g.D.Disk c.documents_hold.ensures.documents c.step.new.frames c.step.new.pass c.args.pass.now.seen
+    freed_since g.D.Disk documents c.step.new.frames c.step.new.pass c.args.pass.now.seen
     c.args.dead.now c.step.new.self h.works.3.is_pass (h.ends.0 no) h.freeing
 
 pub returns-then-not-more-clause-works : goal.returns-then-not-more-clause-works
@@ -72,7 +73,7 @@ returns-then-not-more-clause-works g c =
     let h = c.in_ok-more.ensures c.args.pass.now.seen was.freeing in (
       was.works.0 ++ h.works.0,
       all_then IsFreeKind was.works.0 h.works.0 was.works.1 h.works.2,
-      vacuums_in_turn g.D.Disk c.placing_keeps.ensures.history c.args.frames.now c.loop.frames c.step.new.frames
+      vacuums_in_turn g.D.Disk c.args.frames.now c.loop.frames c.step.new.frames
           c.args.pass.now c.loop.pass c.step.new.pass was.works.0 h.works.0 was.works.2 h.works.3,
     )
 
@@ -94,7 +95,7 @@ returns-in_err-more-clause-works g c =
     let h = c.in_err-more.ensures c.args.pass.now.seen was.freeing in (
       was.works.0 ++ h.works.0,
       all_then IsFreeKind was.works.0 h.works.0 was.works.1 h.works.2,
-      vacuums_in_turn g.D.Disk c.placing_keeps.ensures.history c.args.frames.now c.loop.frames c.step.new.frames
+      vacuums_in_turn g.D.Disk c.args.frames.now c.loop.frames c.step.new.frames
           c.args.pass.now c.loop.pass c.step.new.pass was.works.0 h.works.0 was.works.2 h.works.3,
     )
 
@@ -112,7 +113,7 @@ returns-in_err-more-clause-cause g c =
     let z = err_from_is_err_and c.from_residual.result c.from_residual.ensures.1 in
     let w : PlaceError = c.in_err-more.field-0.0 in
     at_exit (λ x. VacuumMeets g.D.Disk f p n (CannotFree g.D.Disk n x)) c.from_residual.result z.0 w z.1 z.2
-    (meets_by g.D.Disk c.placing_keeps.ensures.history f c.loop.frames n p c.loop.pass was.works.0
+    (meets_by g.D.Disk f c.loop.frames n p c.loop.pass was.works.0
     (CannotFree g.D.Disk n w) was.works.2 was.met h.refused.added h.cause)
 
 pub returns-in_err-more-clause-lawful : goal.returns-in_err-more-clause-lawful
@@ -148,7 +149,7 @@ returns-clause-cause g c =
     let f = c.args.frames.now in
     let p = c.args.pass.now in
     let n = c.loop.frames in
-    meets_by g.D.Disk c.placing_keeps.ensures.history f n n p c.loop.pass was.works.0
+    meets_by g.D.Disk f n n p c.loop.pass was.works.0
     (CannotFree g.D.Disk n OutOfMemory) was.works.2 was.met (same_added g.D.Disk n)
     (finds_now g.D.Disk n c.loop.pass (CannotFree g.D.Disk n OutOfMemory) was.works.2.is_pass tt)
 

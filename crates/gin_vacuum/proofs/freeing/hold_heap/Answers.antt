@@ -4,7 +4,7 @@ use Rattle.std.proofs.lemmas.Bool.{false≢true}
 use Rattle.buffer_frames.specs.Frames.{Lies}
 use Rattle.gin_place.specs.Causes.{Finds, CannotUse}
 use Rattle.gin_place.specs.declared.error.PlaceError.TheVariants.{BadPage}
-use Rattle.gin_place.proofs.Carrying.{reads_in_turn}
+use Rattle.gin_place.proofs.Carrying.{reads_in_turn, right_on}
 use Rattle.gin_place.specs.Faults.{FaultBy}
 use Rattle.gin_place.proofs.Causing.{at_exit, finds_now}
 use Rattle.gin_place.proofs.Faults.{calm_fine, fine_then}
@@ -52,3 +52,15 @@ returns-in_err-heap-clause-fault g c =
     let r = err_from_is_err_and c.from_residual.result c.from_residual.ensures.1 in
     at_exit (λ x. FaultBy g.D.Disk c.args.frames.now c.hold_seen.new.frames x) c.from_residual.result r.0
     c.in_err-heap.field-0.0 r.1 r.2 c.in_err-heap.ensures.fault
+
+pub release-requires : goal.release-requires
+release-requires g c =
+    record {
+      pass = c.hold_seen.ensures.reads.works.is_pass;
+      right = right_on g.D.Disk c.args.frames.now c.hold_seen.new.frames c.args.pass.now c.hold_seen.new.pass [] c.requires.right
+          c.hold_seen.ensures.reads.works;
+      holding = ([], c.in_ok-heap.ensures.holding);
+    }
+
+pub returns-clause-heap : goal.returns-clause-heap
+returns-clause-heap g c = subst IsHeap c.page.ensures.value (c.is_heap.ensures.0 c.if-not-is_heap.false)

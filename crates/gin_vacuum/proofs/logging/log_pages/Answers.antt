@@ -1,5 +1,7 @@
 use Rattle.std.proofs.Common.{sym}
 use Rattle.std.proofs.lemmas.Result.{err_from_is_err_and}
+use Rattle.core_maintenance.proofs.Found.{right_keeps_found}
+use Rattle.core_vacuum.proofs.HeapPages.{heap_pages_hold}
 use Rattle.buffer_frames.proofs.Exits.{on_refusal}
 use Rattle.gin_place.specs.Inner.Refusals.{log_refusal}
 use Rattle.gin_place.specs.Faults.{FaultBy}
@@ -19,7 +21,7 @@ returns-in_err-log_step-clause-refused g c =
     let e = c.log_step.ensures in
     let f = c.in_err-log_step.ensures in
     on_refusal _ c.from_residual.result
-    (reads_by g.D.Disk c.found_stays.ensures.right c.args.frames.now c.log_step.new.self c.args.pass.now
+    (reads_by g.D.Disk right_keeps_found c.args.frames.now c.log_step.new.self c.args.pass.now
     c.log_step.new.pass c.requires.is_pass c.requires.right f.refused f.refused_sees_on e.rises e.pass e.same.0 e.same.1
     f.refused_xid e.work e.pins
     (refused_goes g.D.Disk c.log_step.result e.cause f.refused_state f.refused e.runs_on f.refused_begins))
@@ -34,7 +36,7 @@ pub returns-clause-logged : goal.returns-clause-logged
 returns-clause-logged g c =
     let e = c.log_step.ensures in
     let f = c.in_ok-log_step.ensures in
-    logs_by g.D.Disk c.placing_keeps.ensures.history c.heap_pages_stand.ensures c.args.frames.now c.log_step.new.self
+    logs_by g.D.Disk heap_pages_hold c.args.frames.now c.log_step.new.self
     c.args.pass.now
     c.log_step.new.pass c.args.pages.items c.args.step c.requires c.log_step.result e.cause f.logged f.state e.runs_on
     f.begins f.added f.seen f.all e.rises e.pass e.same.0 e.same.1

@@ -3,7 +3,7 @@ use Rattle.std.specs.Prelude.{⊤}
 use Rattle.std.proofs.lemmas.Result.{err_from_is_err_and}
 use Rattle.page_types.specs.declared.page.Page.{Page}
 use Rattle.gin_place.specs.Causes.{Finds, CannotUse, CannotHold}
-use Rattle.gin_place.proofs.Carrying.{reads_in_turn}
+use Rattle.gin_place.proofs.Carrying.{reads_in_turn, right_on}
 use Rattle.gin_place.specs.Faults.{FaultBy}
 use Rattle.gin_place.proofs.Causing.{at_exit, finds_as}
 use Rattle.gin_place.proofs.Faults.{calm_fine, fine_then}
@@ -84,3 +84,12 @@ returns-in_err-held-clause-fault g c =
     let r = err_from_is_err_and c.from_residual.result c.from_residual.ensures.1 in
     at_exit (λ x. FaultBy g.D.Disk c.args.frames.now c.hold_seen.new.frames x) c.from_residual.result r.0
     c.in_err-held.field-0.0 r.1 r.2 c.in_err-held.ensures.fault
+
+pub release-requires : goal.release-requires
+release-requires g c =
+    record {
+      pass = c.hold_seen.ensures.reads.works.is_pass;
+      right = right_on g.D.Disk c.args.frames.now c.hold_seen.new.frames c.args.pass.now c.hold_seen.new.pass [] c.requires.right
+          c.hold_seen.ensures.reads.works;
+      holding = ([], c.in_ok-held.ensures.holding);
+    }

@@ -1,5 +1,6 @@
 use Rattle.std.proofs.Common.{ℕ, List, [], ◌∷◌, sym, subst}
 use Rattle.core_state.specs.Allowed.{Step}
+use Rattle.core_vacuum.proofs.Logging.{remove_items_may}
 use Rattle.gin_place.proofs.Exits.{on_ok}
 use Rattle.gin_vacuum.specs.Inner.Logging.{MayLogStep, LogsStep}
 use Rattle.gin_vacuum.specs.Inner.Sweeping.{IsRemoval, HasCleaned}
@@ -12,7 +13,7 @@ log_one-requires g c =
     let x = subst (IsRemoval g.D.Disk c.args.frames.now c.args.pass.now r.0 c.args.held) c.in-Some.is r.1 in
     subst (MayLogStep g.D.Disk c.args.frames.now c.args.pass.now (c.args.held ∷ [])) (sym c.in-Ok.ensures.step)
     (removal_may_log g.D.Disk c.args.frames.now c.args.pass.now r.0 c.args.held c.in-Some.page x c.in-Ok.ensures.low
-    c.vacuum_steps_hold.ensures.remove_items c.left_leaf_may_be_logged.ensures)
+    remove_items_may c.left_leaf_may_be_logged.ensures)
 
 pub returns-in_default-clause-none_held : goal.returns-in_default-clause-none_held
 returns-in_default-clause-none_held g c = sym (c.release.ensures.holding [] (c.requires.removal.1).holding).all

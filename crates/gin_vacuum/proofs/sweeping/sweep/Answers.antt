@@ -12,7 +12,7 @@ use Rattle.gin_vacuum.proofs.sweeping.sweep.Goals as goal
 pub loop-more-init : goal.loop-more-init
 loop-more-init g c = record {
   works =
-      ([], tt, nothing_done g.D.Disk c.placing_keeps.ensures.history c.args.frames.now c.args.pass.now c.requires.pass);
+      ([], tt, nothing_done g.D.Disk c.args.frames.now c.args.pass.now c.requires.pass);
   none_held = c.requires.none;
   fine = fine_still g.D.Disk c.args.frames.now;
   sweeping = sweep_begins g.D.Disk c.args.frames.now c.args.pass.now c.args.dead.now c.begin-sweeping.result
@@ -37,7 +37,7 @@ loop-more-preserved g c =
     let was = c.loop-more.invariant in
     let e = c.in_ok-more.ensures in
     record {
-      works = swept_more g.D.Disk c.placing_keeps.ensures.history c.args.frames.now c.loop-more.frames c.step.new.frames
+      works = swept_more g.D.Disk c.args.frames.now c.loop-more.frames c.step.new.frames
           c.args.pass.now c.loop-more.pass c.step.new.pass c.args.dead.now was.works was.fine c.loop-more.sweeping
           c.step.new.self _ e.swept;
       none_held = e.swept.none_held;
@@ -53,7 +53,7 @@ loop-more-smaller g c =
 
 pub returns-then-is_empty-clause-works : goal.returns-then-is_empty-clause-works
 returns-then-is_empty-clause-works g c =
-    ([], tt, nothing_done g.D.Disk c.placing_keeps.ensures.history c.args.frames.now c.args.pass.now c.requires.pass)
+    ([], tt, nothing_done g.D.Disk c.args.frames.now c.args.pass.now c.requires.pass)
 
 pub returns-then-is_empty-clause-fine : goal.returns-then-is_empty-clause-fine
 returns-then-is_empty-clause-fine g c = fine_still g.D.Disk c.args.frames.now
@@ -64,7 +64,7 @@ returns-in_err-more-clause-dead g c = c.in_err-more.ensures.swept.sweeping.leave
 pub returns-in_err-more-clause-works : goal.returns-in_err-more-clause-works
 returns-in_err-more-clause-works g c =
     let was = c.loop-more.invariant in
-    swept_more g.D.Disk c.placing_keeps.ensures.history c.args.frames.now c.loop-more.frames c.step.new.frames
+    swept_more g.D.Disk c.args.frames.now c.loop-more.frames c.step.new.frames
     c.args.pass.now c.loop-more.pass c.step.new.pass c.args.dead.now was.works was.fine c.loop-more.sweeping
     c.step.new.self _ c.in_err-more.ensures.swept
 
@@ -75,7 +75,7 @@ returns-in_err-more-clause-cause g c =
     let w = c.in_err-more.field-0.0 in
     at_exit (λ x. VacuumMeets g.D.Disk c.args.frames.now c.args.pass.now c.step.new.frames
     (IsCause g.D.Disk (IsBadIn g.D.Disk) c.step.new.frames x)) c.from_residual.result p.0 w p.1 p.2
-    (sweep_cause g.D.Disk c.placing_keeps.ensures.history c.args.frames.now c.loop-more.frames c.step.new.frames
+    (sweep_cause g.D.Disk c.args.frames.now c.loop-more.frames c.step.new.frames
     c.args.pass.now c.loop-more.pass c.step.new.pass c.args.dead.now was.works was.fine c.loop-more.sweeping
     c.step.new.self w c.in_err-more.ensures.swept)
 
@@ -85,7 +85,7 @@ returns-in_err-more-clause-lawful g c =
     let p = err_from_is_err_and c.from_residual.result c.from_residual.ensures.1 in
     let w = c.in_err-more.field-0.0 in
     at_exit (NeverBad g.D.Disk c.args.frames.now) c.from_residual.result p.0 w p.1 p.2
-    (sweep_lawful g.D.Disk c.placing_keeps.ensures.history c.args.frames.now c.loop-more.frames c.step.new.frames
+    (sweep_lawful g.D.Disk c.args.frames.now c.loop-more.frames c.step.new.frames
     c.args.pass.now c.loop-more.pass c.step.new.pass c.args.dead.now was.works was.fine c.loop-more.sweeping
     c.step.new.self w c.in_err-more.ensures.swept)
 

@@ -1,5 +1,6 @@
 use Rattle.std.proofs.Common.{◌≡◌, ◌⊎◌, [], sym, subst₂, ◌∙◌, inl, inr, arith}
 use Rattle.std.proofs.lemmas.Result.{err_from_is_err_and}
+use Rattle.core_state.proofs.LawsHold.{steady}
 use Rattle.gin_place.specs.Causes.{Finds, NoBadPage}
 use Rattle.gin_place.specs.Faults.{FaultBy}
 use Rattle.gin_place.specs.declared.error.PlaceError.TheVariants.{OutOfMemory}
@@ -60,13 +61,13 @@ returns-clause-unlinked g c =
       | then-loop-walk-test+else-walk-ne0 b ↦ inl b.if-walk-ne0.false
       | else-loop-walk-test b ↦ inr (omega (arith, b.loop-walk-test.false))
     ] in
-    unlinked g.D.Disk c.steady_hold.ensures c.loop-walk.frames c.loop-walk.pass x.reads.works.is_pass
+    unlinked g.D.Disk steady c.loop-walk.frames c.loop-walk.pass x.reads.works.is_pass
     c.args.pass.now.seen c.args.pass.now.floor c.args.dead.now w.page w.left w.met.items c.in_ok-left_out.field-0 end
     c.in_ok-left_out.ensures x.walk
 
 pub returns-clause-dead : goal.returns-clause-dead
 returns-clause-dead g c =
-    heads_still g.D.Disk c.steady_hold.ensures c.args.frames.now c.loop-walk.frames c.args.pass.now c.loop-walk.pass
+    heads_still g.D.Disk steady c.args.frames.now c.loop-walk.frames c.args.pass.now c.loop-walk.pass
     c.requires.pass c.requires.right c.requires.none c.loop-walk.invariant.reads c.args.dead.now c.requires.dead
 
 pub returns-clause-reads : goal.returns-clause-reads
@@ -80,7 +81,7 @@ returns-clause-fine g c = c.loop-walk.invariant.fine
 
 pub returns-in_err-walk-clause-dead : goal.returns-in_err-walk-clause-dead
 returns-in_err-walk-clause-dead g c =
-    heads_still g.D.Disk c.steady_hold.ensures c.args.frames.now c.begin.new.frames c.args.pass.now c.begin.new.pass
+    heads_still g.D.Disk steady c.args.frames.now c.begin.new.frames c.args.pass.now c.begin.new.pass
     c.requires.pass c.requires.right c.requires.none c.begin.ensures.reads c.args.dead.now c.requires.dead
 
 pub returns-in_err-walk-clause-cause : goal.returns-in_err-walk-clause-cause
@@ -109,7 +110,7 @@ returns-in_err-read-clause-reads g c =
 
 pub returns-in_err-read-clause-dead : goal.returns-in_err-read-clause-dead
 returns-in_err-read-clause-dead g c =
-    heads_still g.D.Disk c.steady_hold.ensures c.args.frames.now c.read.new.frames c.args.pass.now c.read.new.pass
+    heads_still g.D.Disk steady c.args.frames.now c.read.new.frames c.args.pass.now c.read.new.pass
     c.requires.pass c.requires.right c.requires.none
     (reads_in_turn g.D.Disk c.args.frames.now c.loop-walk.frames c.read.new.frames c.args.pass.now c.loop-walk.pass
     c.read.new.pass c.loop-walk.invariant.reads c.read.ensures.reads) c.args.dead.now c.requires.dead
@@ -145,7 +146,7 @@ returns-in_err-read-clause-fault g c =
 
 pub returns-in_err-left_out-clause-dead : goal.returns-in_err-left_out-clause-dead
 returns-in_err-left_out-clause-dead g c =
-    heads_still g.D.Disk c.steady_hold.ensures c.args.frames.now c.loop-walk.frames c.args.pass.now c.loop-walk.pass
+    heads_still g.D.Disk steady c.args.frames.now c.loop-walk.frames c.args.pass.now c.loop-walk.pass
     c.requires.pass c.requires.right c.requires.none c.loop-walk.invariant.reads c.args.dead.now c.requires.dead
 
 pub returns-in_err-left_out-clause-reads : goal.returns-in_err-left_out-clause-reads

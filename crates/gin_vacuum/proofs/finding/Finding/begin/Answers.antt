@@ -1,5 +1,7 @@
 use Rattle.std.proofs.Common.{ℕ, List, [], sym, subst}
 use Rattle.std.proofs.lemmas.Result.{err_from_is_err_and}
+use Rattle.core_maintenance.proofs.Found.{right_keeps_found}
+use Rattle.core_state.proofs.LawsHold.{steady, documents, pages}
 use Rattle.buffer_frames.proofs.AtHand.{none_held}
 use Rattle.gin_place.specs.Causes.{Finds, NoBadPage}
 use Rattle.gin_place.specs.Faults.{FaultBy}
@@ -17,7 +19,7 @@ use Rattle.gin_vacuum.proofs.finding.Finding.begin.Goals as goal
 pub returns-clause-finding : goal.returns-clause-finding
 returns-clause-finding g c =
     let e = c.look.ensures in
-    let reads = reads_by g.D.Disk c.found_stays.ensures.right c.args.frames.now c.look.new.self c.args.pass.now
+    let reads = reads_by g.D.Disk right_keeps_found c.args.frames.now c.look.new.self c.args.pass.now
     c.look.new.pass c.requires.pass c.requires.right e.added e.sees_on e.rises e.pass e.keeps.pin e.keeps.room
     e.keeps.xid e.keeps.work e.pins (calm_goes g.D.Disk e.calm e.state e.added e.runs_on e.begins) in
     λ floor is.
@@ -27,7 +29,7 @@ returns-clause-finding g c =
     (λ (items : List ℕ).
     IsFindingAt g.D.Disk c.look.new.self c.look.new.pass c.args.pass.now.seen floor c.in_ok-next.next items)
     (sym c.new.ensures.items)
-    (begun g.D.Disk c.steady_hold.ensures c.documents_hold.ensures.documents c.pages_hold.ensures c.args.frames.now
+    (begun g.D.Disk steady documents pages c.args.frames.now
     c.look.new.self c.args.pass.now c.look.new.pass []
     (none_held g.D.Disk c.args.frames.now c.args.pass.now c.requires.pass c.requires.none) c.requires.pass
     c.requires.right reads.works c.in_ok-next.ensures.seen c.in_ok-next.next c.in_ok-next.ensures.answers floor low)
@@ -35,7 +37,7 @@ returns-clause-finding g c =
 pub returns-clause-reads : goal.returns-clause-reads
 returns-clause-reads g c =
     let e = c.look.ensures in
-    reads_by g.D.Disk c.found_stays.ensures.right c.args.frames.now c.look.new.self c.args.pass.now c.look.new.pass
+    reads_by g.D.Disk right_keeps_found c.args.frames.now c.look.new.self c.args.pass.now c.look.new.pass
     c.requires.pass c.requires.right e.added e.sees_on e.rises e.pass e.keeps.pin e.keeps.room e.keeps.xid e.keeps.work
     e.pins (calm_goes g.D.Disk e.calm e.state e.added e.runs_on e.begins)
 
@@ -45,7 +47,7 @@ returns-clause-fine g c = calm_fine g.D.Disk c.args.frames.now c.look.new.self c
 pub returns-in_err-next-clause-reads : goal.returns-in_err-next-clause-reads
 returns-in_err-next-clause-reads g c =
     let e = c.look.ensures in
-    reads_by g.D.Disk c.found_stays.ensures.right c.args.frames.now c.look.new.self c.args.pass.now c.look.new.pass
+    reads_by g.D.Disk right_keeps_found c.args.frames.now c.look.new.self c.args.pass.now c.look.new.pass
     c.requires.pass c.requires.right e.added e.sees_on e.rises e.pass e.keeps.pin e.keeps.room e.keeps.xid e.keeps.work
     e.pins (calm_goes g.D.Disk e.calm e.state e.added e.runs_on e.begins)
 

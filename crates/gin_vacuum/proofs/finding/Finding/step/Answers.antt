@@ -1,6 +1,7 @@
 use Rattle.std.proofs.Common.{◌<◌, ℕ, List, refl, sym, subst, subst₂}
 use Rattle.std.proofs.lemmas.Result.{err_from_is_err_and}
 use Rattle.std.specs.Prelude.{Option}
+use Rattle.core_state.proofs.LawsHold.{steady}
 use Rattle.gin_place.specs.Causes.{Finds, NoBadPage}
 use Rattle.gin_place.specs.Faults.{FaultBy}
 use Rattle.gin_place.proofs.Carrying.{reads_still, same_added}
@@ -10,7 +11,7 @@ use Rattle.gin_place.specs.declared.error.PlaceError.TheVariants.{OutOfMemory}
 use Rattle.gin_vacuum.specs.Causes.{CannotRead}
 use Rattle.gin_vacuum.specs.Finding.{IsFindingAt, left_from}
 use Rattle.gin_vacuum.proofs.HeapCauses.{lawful_read}
-use Rattle.gin_vacuum.proofs.ReadHeap.{fewer, some_ends, none_is}
+use Rattle.gin_vacuum.proofs.ReadHeap.{found_still, fewer, some_ends, none_is}
 use Rattle.gin_vacuum.proofs.finding.Finding.step.Goals as goal
 
 pub read_dead-requires-clause-finding : goal.read_dead-requires-clause-finding
@@ -31,7 +32,9 @@ returns-in_default-clause-fine g c = fine_still g.D.Disk c.args.frames.now
 
 pub returns-in_err-dead-clause-finding : goal.returns-in_err-dead-clause-finding
 returns-in_err-dead-clause-finding g c = λ from floor x.
-    c.read_dead.ensures.still from floor c.args.self.now.next c.args.self.now.items.items x
+    found_still g.D.Disk steady c.args.frames.now c.read_dead.new.frames c.args.pass.now c.read_dead.new.pass
+    c.requires.pass c.requires.right c.requires.none c.read_dead.ensures.reads from floor c.args.self.now.next
+    c.args.self.now.items.items x
 
 pub returns-in_err-dead-clause-cause : goal.returns-in_err-dead-clause-cause
 returns-in_err-dead-clause-cause g c =
@@ -61,7 +64,9 @@ returns-in_err-take-clause-finding g c = λ from floor x.
     subst₂ (λ (n : Option ℕ)
     (is : List ℕ). IsFindingAt g.D.Disk c.read_dead.new.frames c.read_dead.new.pass from floor n
     is) (sym kept.next) (sym kept.items)
-    (c.read_dead.ensures.still from floor c.args.self.now.next c.args.self.now.items.items x)
+    (found_still g.D.Disk steady c.args.frames.now c.read_dead.new.frames c.args.pass.now c.read_dead.new.pass
+    c.requires.pass c.requires.right c.requires.none c.read_dead.ensures.reads from floor c.args.self.now.next
+    c.args.self.now.items.items x)
 
 pub returns-in_err-take-clause-cause : goal.returns-in_err-take-clause-cause
 returns-in_err-take-clause-cause g c =

@@ -3,6 +3,9 @@ use Rattle.std.proofs.lemmas.Result.{err_from_is_err_and}
 use Rattle.page_types.specs.Pages.{IsPage}
 use Rattle.page_types.specs.declared.page.Page.{Page}
 use Rattle.core_state.specs.Documents.{page_of}
+use Rattle.core_state.proofs.LawsHold.{records}
+use Rattle.core_vacuum.proofs.Kept.{vacuum_holds}
+use Rattle.core_vacuum.proofs.OutStays.{right_keeps_out}
 use Rattle.buffer_frames.proofs.AtHand.{none_held}
 use Rattle.buffer_frames.proofs.Exits.{on_refusal}
 use Rattle.gin_place.specs.Causes.{Finds, CannotUse}
@@ -30,7 +33,7 @@ hold_heap-requires-clause-lawful g c =
     let p = c.args.pass.now in
     let items = c.args.items.now in
     let m = c.args.self.now in
-    never_heap g.D.Disk c.out_stays.ensures.right f p [] (none_held g.D.Disk f p c.requires.pass c.requires.none)
+    never_heap g.D.Disk right_keeps_out f p [] (none_held g.D.Disk f p c.requires.pass c.requires.none)
     c.requires.pass c.requires.right (get_or items m.from 0)
     (next_out g.D.Disk f p c.requires.freeing.0 items m c.requires.freeing.1 c.requires.left)
 
@@ -50,7 +53,7 @@ returns-in_err-heap-clause-none_held g c = c.in_err-heap.ensures.still
 pub returns-in_err-heap-clause-refused : goal.returns-in_err-heap-clause-refused
 returns-in_err-heap-clause-refused g c =
     on_refusal _ c.from_residual.result
-    (reads_vacuum g.D.Disk c.placing_keeps.ensures.history c.args.frames.now c.hold_heap.new.frames c.args.pass.now
+    (reads_vacuum g.D.Disk c.args.frames.now c.hold_heap.new.frames c.args.pass.now
     c.hold_heap.new.pass c.hold_heap.ensures.reads.works)
 
 pub returns-in_err-heap-clause-cause : goal.returns-in_err-heap-clause-cause
@@ -69,7 +72,7 @@ returns-in_err-heap-clause-fault g c =
 
 pub returns-in-Some-clause-freeing : goal.returns-in-Some-clause-freeing
 returns-in-Some-clause-freeing g c = λ began x.
-    read_then g.D.Disk c.out_stays.ensures.right c.vacuum_keeps.ensures c.records_keep.ensures c.args.frames.now
+    read_then g.D.Disk right_keeps_out vacuum_holds records c.args.frames.now
     c.hold_heap.new.frames c.release.new.frames c.args.pass.now c.hold_heap.new.pass c.release.new.pass c.requires.pass
     c.requires.right c.requires.none c.hold_heap.ensures.reads.works c.in_ok-heap.heap c.in_ok-heap.ensures.holding
     began c.args.items.now c.args.self.now x c.release.ensures.reads
@@ -79,7 +82,7 @@ returns-in-Some-clause-none_held g c = sym (c.release.ensures.holding [] c.in_ok
 
 pub returns-in-Some-clause-refused : goal.returns-in-Some-clause-refused
 returns-in-Some-clause-refused g c =
-    reads_vacuum g.D.Disk c.placing_keeps.ensures.history c.args.frames.now c.release.new.frames c.args.pass.now
+    reads_vacuum g.D.Disk c.args.frames.now c.release.new.frames c.args.pass.now
     c.release.new.pass
     (reads_in_turn g.D.Disk c.args.frames.now c.hold_heap.new.frames c.release.new.frames c.args.pass.now
     c.hold_heap.new.pass c.release.new.pass c.hold_heap.ensures.reads c.release.ensures.reads).works
@@ -112,7 +115,7 @@ pub returns-in-Some-2-clause-freeing : goal.returns-in-Some-2-clause-freeing
 returns-in-Some-2-clause-freeing g c = λ began x.
     let e = c.in_ok-heap.ensures in
     let found = c.in-Some.found in
-    dropped g.D.Disk c.out_stays.ensures.right c.vacuum_keeps.ensures c.records_keep.ensures c.args.frames.now
+    dropped g.D.Disk right_keeps_out vacuum_holds records c.args.frames.now
     c.hold_heap.new.frames c.drop_first.new.frames c.args.pass.now c.hold_heap.new.pass c.drop_first.new.pass
     c.requires.pass c.requires.right c.requires.none c.hold_heap.ensures.reads.works c.in_ok-heap.heap e.holding began
     c.args.items.now c.args.self.now x c.drop_first.result found
@@ -130,10 +133,9 @@ returns-in-Some-2-clause-works g c =
     let r = c.drop_first.new.pass in
     let heap = c.in_ok-heap.heap in
     let to = c.hold_heap.ensures.reads.works in
-    let history = c.placing_keeps.ensures.history in
     on_ok c.drop_first.result (LogsDrop g.D.Disk l q heap h r c.in-Some.found)
-    (Works g.D.Disk history f l h p q r to heap)
-    (drop_works g.D.Disk history f l h p q r to heap c.in-Some.found) c.drop_first.ensures.logged
+    (Works g.D.Disk f l h p q r to heap)
+    (drop_works g.D.Disk f l h p q r to heap c.in-Some.found) c.drop_first.ensures.logged
 
 pub returns-in-Some-2-clause-refused : goal.returns-in-Some-2-clause-refused
 returns-in-Some-2-clause-refused g c =
@@ -144,7 +146,7 @@ returns-in-Some-2-clause-refused g c =
     let h = c.drop_first.new.frames in
     let r = c.drop_first.new.pass in
     on_err c.drop_first.result (ReadsOn g.D.Disk l q h r) (VacuumsOn g.D.Disk f p h r [])
-    (λ reads. reads_vacuum g.D.Disk c.placing_keeps.ensures.history f h p r
+    (λ reads. reads_vacuum g.D.Disk f h p r
     (reads_in_turn g.D.Disk f l h p q r c.hold_heap.ensures.reads reads).works) c.drop_first.ensures.refused
 
 pub returns-in-Some-2-clause-lower : goal.returns-in-Some-2-clause-lower
@@ -159,7 +161,7 @@ returns-in-Some-2-clause-lower g c =
     let to = c.hold_heap.ensures.reads.works in
     on_ok c.drop_first.result (LogsDrop g.D.Disk l q heap h r c.in-Some.found)
     (ComesNearer f h c.args.items.now c.args.self.now c.args.self.now)
-    (drop_nearer g.D.Disk c.placing_keeps.ensures.history f l h p q r to heap c.in-Some.found c.args.items.now
+    (drop_nearer g.D.Disk f l h p q r to heap c.in-Some.found c.args.items.now
     c.args.self.now) c.drop_first.ensures.logged
 
 pub returns-in-Some-2-clause-cause : goal.returns-in-Some-2-clause-cause
@@ -194,7 +196,7 @@ returns-in-Some-2-clause-fault g c =
 
 pub returns-in_err-free_all-in-None-clause-freeing : goal.returns-in_err-free_all-in-None-clause-freeing
 returns-in_err-free_all-in-None-clause-freeing g c = λ began x.
-    read_then g.D.Disk c.out_stays.ensures.right c.vacuum_keeps.ensures c.records_keep.ensures c.args.frames.now
+    read_then g.D.Disk right_keeps_out vacuum_holds records c.args.frames.now
     c.hold_heap.new.frames c.free_all.new.frames c.args.pass.now c.hold_heap.new.pass c.free_all.new.pass
     c.requires.pass c.requires.right c.requires.none c.hold_heap.ensures.reads.works c.in_ok-heap.heap
     c.in_ok-heap.ensures.holding began c.args.items.now c.args.self.now x c.in_err-free_all-in-None.ensures.refused
@@ -206,7 +208,7 @@ returns-in_err-free_all-in-None-clause-refused g c =
     let h = c.free_all.new.frames in
     let r = c.free_all.new.pass in
     on_refusal _ c.from_residual-in_err-free_all-in-None.result
-    (reads_vacuum g.D.Disk c.placing_keeps.ensures.history f h p r
+    (reads_vacuum g.D.Disk f h p r
     (reads_in_turn g.D.Disk f c.hold_heap.new.frames h p c.hold_heap.new.pass r c.hold_heap.ensures.reads
     c.in_err-free_all-in-None.ensures.refused).works)
 
@@ -237,7 +239,7 @@ pub returns-in_ok-free_all-in-None-clause-freeing : goal.returns-in_ok-free_all-
 returns-in_ok-free_all-in-None-clause-freeing g c = λ began x.
     let e = c.in_ok-heap.ensures in
     let past = c.end_of-end.ensures.past c.requires.items in
-    freed g.D.Disk c.out_stays.ensures.right c.vacuum_keeps.ensures c.records_keep.ensures c.args.frames.now
+    freed g.D.Disk right_keeps_out vacuum_holds records c.args.frames.now
     c.hold_heap.new.frames c.free_all.new.frames c.args.pass.now c.hold_heap.new.pass c.free_all.new.pass
     c.requires.pass c.requires.right c.requires.none c.hold_heap.ensures.reads.works c.in_ok-heap.heap e.holding began
     c.args.items.now c.args.self.now x c.end_of-end.result c.end_of-end.ensures.within.0
@@ -246,14 +248,14 @@ returns-in_ok-free_all-in-None-clause-freeing g c = λ began x.
 
 pub returns-in_ok-free_all-in-None-clause-works : goal.returns-in_ok-free_all-in-None-clause-works
 returns-in_ok-free_all-in-None-clause-works g c =
-    free_works g.D.Disk c.placing_keeps.ensures.history c.args.frames.now c.hold_heap.new.frames
+    free_works g.D.Disk c.args.frames.now c.hold_heap.new.frames
     c.free_all.new.frames c.args.pass.now c.hold_heap.new.pass c.free_all.new.pass c.hold_heap.ensures.reads.works
     c.in_ok-heap.heap _ c.in_ok-free_all-in-None.ensures.logged
 
 pub returns-in_ok-free_all-in-None-clause-lower : goal.returns-in_ok-free_all-in-None-clause-lower
 returns-in_ok-free_all-in-None-clause-lower g c =
     let within = c.end_of-end.ensures.within in
-    free_nearer g.D.Disk c.placing_keeps.ensures.history c.args.frames.now c.hold_heap.new.frames
+    free_nearer g.D.Disk c.args.frames.now c.hold_heap.new.frames
     c.free_all.new.frames c.args.pass.now c.hold_heap.new.pass c.free_all.new.pass c.hold_heap.ensures.reads.works
     c.in_ok-heap.heap _ c.args.items.now c.args.self.now c.end_of-end.result within.0 within.1
     c.in_ok-free_all-in-None.ensures.logged

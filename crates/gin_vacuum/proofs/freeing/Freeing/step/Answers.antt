@@ -13,7 +13,7 @@ pub returns-then-self-items : goal.returns-then-self-items
 returns-then-self-items g c = λ began x.
     let f = c.args.frames.now in
     let p = c.args.pass.now in
-    let still = reads_vacuum g.D.Disk c.placing_keeps.ensures.history f f p p
+    let still = reads_vacuum g.D.Disk f f p p
     (reads_still g.D.Disk f p c.requires.pass (same_added g.D.Disk f)).works in
     record {
       freeing = x;

@@ -1,5 +1,8 @@
 use Rattle.std.proofs.Common.{◌∙◌, [], sym, ap, subst, Err}
 use Rattle.std.proofs.lemmas.Result.{err_from_is_err_and}
+use Rattle.core_vacuum.proofs.Kept.{vacuum_holds}
+use Rattle.core_vacuum.proofs.FirstLeaves.{leaves_hold}
+use Rattle.core_vacuum.proofs.OneEntry.{entries_hold}
 use Rattle.buffer_frames.specs.Passes.{Seen}
 use Rattle.gin_place.proofs.Faults.{calm_fine}
 use Rattle.gin_vacuum.specs.Stepping.{HasSwept}
@@ -40,10 +43,10 @@ returns-in_ok-delete_leaf-in-Ok-Some-clause-swept g c = λ dead sw.
     let t = c.requires.stage in
     let e = c.in_ok-delete_leaf-in-Ok-Some.ensures in
     let o = c.in-Ok-Some in
-    is_deleted g.D.Disk c.placing_keeps.ensures.history c.args.frames.now c.args.pass.now c.requires.pass
+    is_deleted g.D.Disk c.args.frames.now c.args.pass.now c.requires.pass
     c.requires.right c.args.parent c.requires.holding dead c.args.self.now sw c.args.empty t.0 t.1 t.2
     c.delete_leaf.new.frames
-    c.delete_leaf.new.pass c.delete_leaf.ensures.none_held c.vacuum_keeps.ensures c.in-Ok-Some.without
+    c.delete_leaf.new.pass c.delete_leaf.ensures.none_held vacuum_holds c.in-Ok-Some.without
     (is_without c.args.empty.page c.page.result.now c.args.parent.content o.without o.field-0 o.field-0-is
     o.ensures.unlinked o.ensures.same o.ensures.is_page c.page.ensures.is_page c.page.ensures.value) e.logged
     (subst HasHigh t.2 sw.high).0 _ c.go_past.new.self e.fine
@@ -62,7 +65,7 @@ returns-in_err-delete_leaf-in-Ok-Some-clause-swept g c = λ dead sw.
     let r = err_from_is_err_and c.from_residual.result c.from_residual.ensures.1 in
     subst (HasSwept g.D.Disk c.args.frames.now c.args.pass.now c.delete_leaf.new.frames c.delete_leaf.new.pass dead
     c.args.self.now c.args.self.now) (sym (r.1 ∙ ap Err r.2))
-    (not_deleted g.D.Disk c.placing_keeps.ensures.history c.args.frames.now c.args.pass.now c.requires.pass
+    (not_deleted g.D.Disk c.args.frames.now c.args.pass.now c.requires.pass
     c.requires.right c.args.parent c.requires.holding dead c.args.self.now sw c.args.empty t.0 t.1 t.2
     c.delete_leaf.new.frames c.delete_leaf.new.pass c.delete_leaf.ensures.none_held
     c.in_err-delete_leaf-in-Ok-Some.field-0.0
@@ -71,11 +74,11 @@ returns-in_err-delete_leaf-in-Ok-Some-clause-swept g c = λ dead sw.
 pub returns-in-Ok-None-clause-swept : goal.returns-in-Ok-None-clause-swept
 returns-in-Ok-None-clause-swept g c = λ dead sw.
     let t = c.requires.stage in
-    stays_last g.D.Disk c.placing_keeps.ensures.history c.args.frames.now c.args.pass.now c.requires.pass
+    stays_last g.D.Disk c.args.frames.now c.args.pass.now c.requires.pass
     c.requires.right c.args.parent c.requires.holding dead c.args.self.now sw c.args.empty t.0 t.1 t.2
     c.release.new.frames
-    c.release.new.pass (sym (c.release.ensures.holding [] c.requires.holding).all) c.leaves_stand.ensures
-    c.entries_stand.ensures c.go_past-in-Ok-None.new.self _ c.release.ensures.reads
+    c.release.new.pass (sym (c.release.ensures.holding [] c.requires.holding).all) leaves_hold
+    entries_hold c.go_past-in-Ok-None.new.self _ c.release.ensures.reads
     (calm_fine g.D.Disk c.args.frames.now c.release.new.frames c.release.ensures.calm) c.go_past-in-Ok-None.ensures
 
 pub returns-in-Ok-None-clause-lower : goal.returns-in-Ok-None-clause-lower
@@ -88,7 +91,7 @@ returns-in-Ok-None-clause-lower g c =
 pub returns-in-Err-clause-swept : goal.returns-in-Err-clause-swept
 returns-in-Err-clause-swept g c = λ dead sw.
     let t = c.requires.stage in
-    no_memory g.D.Disk c.placing_keeps.ensures.history c.args.frames.now c.args.pass.now c.requires.pass
+    no_memory g.D.Disk c.args.frames.now c.args.pass.now c.requires.pass
     c.requires.right c.args.parent c.requires.holding dead c.args.self.now sw c.args.empty t.0 t.1 t.2
     c.release-in-Err.new.frames
     c.release-in-Err.new.pass (sym (c.release-in-Err.ensures.holding [] c.requires.holding).all)

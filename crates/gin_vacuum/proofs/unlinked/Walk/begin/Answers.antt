@@ -2,6 +2,7 @@ use Rattle.std.proofs.Common.{◌≡◌, [], sym, ap, subst, ◌∙◌, Err}
 use Rattle.std.proofs.lemmas.Result.{err_from_is_err_and}
 use Rattle.page_types.specs.declared.page.Page.{Page}
 use Rattle.page_types.specs.declared.page.Body.TheVariants as body
+use Rattle.core_state.proofs.LawsHold.{steady, pages}
 use Rattle.buffer_frames.specs.Frames.{Lies}
 use Rattle.gin_place.specs.Causes.{Finds, CannotUse}
 use Rattle.gin_place.specs.Faults.{FaultBy}
@@ -24,7 +25,7 @@ returns-in_err-meta-clause-cause g c =
     at_exit (λ x. Finds g.D.Disk f q
     (CannotList g.D.Disk c.hold_seen.new.frames x)) c.from_residual.result p.0 w p.1 p.2
     (list_cause g.D.Disk c.hold_seen.new.frames IsMetaPage 0 w f q c.requires.pass
-    (bad_meta g.D.Disk c.pages_hold.ensures f q c.requires.pass)
+    (bad_meta g.D.Disk pages f q c.requires.pass)
     (λ n same. c.hold_seen.ensures.bad n (c.in_err-meta.was ∙ ap Err same)) c.in_err-meta.ensures.cause)
 
 pub release-requires-clause-right : goal.release-requires-clause-right
@@ -50,7 +51,7 @@ returns-in_default-clause-cause g c =
     let lies = subst (Lies c.args.frames.now 0) (sym c.page.ensures.value) c.in_ok-meta.ensures.lies in
     finds_now g.D.Disk c.args.frames.now c.args.pass.now (CannotList g.D.Disk c.release.new.frames (BadPage 0))
     c.requires.pass
-    (bad_meta g.D.Disk c.pages_hold.ensures c.args.frames.now c.args.pass.now c.requires.pass
+    (bad_meta g.D.Disk pages c.args.frames.now c.args.pass.now c.requires.pass
     (CannotUse.other c.page.result.now c.page.ensures.is_page lies off))
 
 pub returns-in_default-clause-fault : goal.returns-in_default-clause-fault
@@ -71,10 +72,10 @@ returns-clause-walk g c = λ dead heads.
     let some = c.in-Some.ensures.some in
     subst (IsWalkAt g.D.Disk c.release.new.frames c.release.new.pass c.args.pass.now.seen c.args.pass.now.floor dead
     first n) (sym c.new.ensures.items)
-    (walk_begun g.D.Disk c.steady_hold.ensures c.placing_keeps.ensures.line c.args.frames.now c.hold_seen.new.frames
+    (walk_begun g.D.Disk steady c.placing_keeps.ensures.line c.args.frames.now c.hold_seen.new.frames
     c.release.new.frames c.args.pass.now c.hold_seen.new.pass c.release.new.pass c.in_ok-meta.meta c.requires.pass
     c.requires.right c.requires.none c.hold_seen.ensures.reads c.in_ok-meta.ensures.holding c.release.ensures.reads
-    c.in_ok-meta.ensures.seen c.pages_hold.ensures c.in_ok-meta.ensures.number first some.0 n
+    c.in_ok-meta.ensures.seen pages c.in_ok-meta.ensures.number first some.0 n
     (subst (λ (p : Page). p.body ≡ body.Meta first some.0 n) c.page.ensures.value some.1) dead heads)
 
 pub returns-clause-reads : goal.returns-clause-reads

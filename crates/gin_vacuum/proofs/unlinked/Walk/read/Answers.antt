@@ -1,5 +1,6 @@
 use Rattle.std.proofs.Common.{[], Err, sym, ap, subst, ◌∙◌}
 use Rattle.std.proofs.lemmas.Result.{err_from_is_err_and}
+use Rattle.core_state.proofs.LawsHold.{steady, pages}
 use Rattle.buffer_frames.specs.Frames.{Lies}
 use Rattle.buffer_frames.proofs.AtHand.{none_held}
 use Rattle.gin_place.specs.Causes.{Finds, CannotUse}
@@ -32,7 +33,7 @@ returns-in_err-held-clause-cause g c =
     at_exit (λ x. Finds g.D.Disk f p
     (CannotList g.D.Disk c.hold_seen.new.frames x)) c.from_residual.result r.0 w r.1 r.2
     (list_cause g.D.Disk c.hold_seen.new.frames IsRowPage page w f p c.requires.pass
-    (bad_rows g.D.Disk c.pages_hold.ensures c.placing_keeps.ensures.right f p []
+    (bad_rows g.D.Disk pages c.placing_keeps.ensures.right f p []
     (none_held g.D.Disk f p c.requires.pass c.requires.none) c.requires.pass c.requires.right x.0 x.1 c.args.dead.now
     page c.args.self.now.left c.args.self.now.met.items x.2 c.requires.some)
     (λ n same. c.hold_seen.ensures.bad n (c.in_err-held.was ∙ ap Err same)) c.in_err-held.ensures.cause)
@@ -45,7 +46,7 @@ returns-in_err-held-clause-fault g c =
 
 pub returns-in-Ok-true-clause-walk : goal.returns-in-Ok-true-clause-walk
 returns-in-Ok-true-clause-walk g c = λ from floor was.
-    walk_noted g.D.Disk c.steady_hold.ensures c.placing_keeps.ensures.line c.args.frames.now c.hold_seen.new.frames
+    walk_noted g.D.Disk steady c.placing_keeps.ensures.line c.args.frames.now c.hold_seen.new.frames
     c.release.new.frames c.args.pass.now c.hold_seen.new.pass c.release.new.pass c.in_ok-held.held c.requires.pass
     c.requires.right c.requires.none c.hold_seen.ensures.reads c.in_ok-held.ensures.holding c.release.ensures.reads
     c.in_ok-held.ensures.seen c.args.self.now c.note-noted.new.self c.in_ok-held.ensures.number c.requires.some
@@ -90,7 +91,7 @@ returns-in-Ok-false-clause-cause g c =
     let page = c.args.self.now.page in
     let lies = subst (Lies f page) (sym c.page.ensures.value) c.in_ok-held.ensures.lies in
     finds_now g.D.Disk f p (CannotList g.D.Disk c.release.new.frames (BadPage page)) c.requires.pass
-    (bad_rows g.D.Disk c.pages_hold.ensures c.placing_keeps.ensures.right f p []
+    (bad_rows g.D.Disk pages c.placing_keeps.ensures.right f p []
     (none_held g.D.Disk f p c.requires.pass c.requires.none) c.requires.pass c.requires.right x.0 x.1 c.args.dead.now
     page c.args.self.now.left c.args.self.now.met.items x.2 c.requires.some
     (CannotUse.other c.page.result.now c.page.ensures.is_page lies
