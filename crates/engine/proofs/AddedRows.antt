@@ -2,7 +2,8 @@
 -- logged, and that the transaction inserts the document then.
 use Rattle.std.proofs.Common.{◌≡◌, ◌≢◌, ◌⊎◌, ◌<◌, ◌^◌, ℕ, List, [], ◌∷◌, map, refl, sym}
 use Rattle.std.proofs.Common.{ap, subst, ◌∙◌, inl, inr, ⊎_elim, arith}
-use Rattle.std.specs.Prelude.{Option, Some, None, IfSome, IfNone}
+use Rattle.std.specs.Prelude.{Option, Some, None, IfSome, IfNone, Result, Ok, Err, IfOk, IfErr}
+use Rattle.std.specs.Result.{result_transpose}
 use Rattle.disk_trait.specs.declared.device.Disk.{Ghosts as Disk}
 use Rattle.ts_base.specs.Vectors.{Vector}
 use Rattle.ts_base.specs.Keys.{Key, keys_of}
@@ -39,6 +40,8 @@ use Rattle.engine.specs.Work.{IsRowOf}
 use Rattle.engine.specs.Inner.Parts.{IsRowedSoFar, AreIndexed, HasRows, HasChanged, with_inserted}
 use Rattle.engine.specs.Inner.Changing.{doc_of, ChangesDocument, MayLogStep, LogsStep}
 use Rattle.engine.specs.Inner.Indexing.{IsRowStep, NamesEnd}
+use Rattle.engine.specs.declared.error.DbError.{DbError}
+use Rattle.engine.specs.declared.error.DbError.TheVariants.{OutOfMemory}
 use Rattle.engine.proofs.Marking.{named}
 use Rattle.engine.proofs.Puts.{inserts_it}
 use Rattle.engine.proofs.RowsKept.{linked_now, some_log}
@@ -130,13 +133,28 @@ named_low meta first last pages is names =
     (m.first_page, m.last_page)
 
 -- what is told of a step, where there is one, and of none
-pub made_some : (x : ℕ) (name : Name) (last : Sheet) (keys : List Key) (o : Option Step) (step : Step) → o ≡ Some step
-    → IfSome o (λ (s : Step). IsRowStep x name last keys s) → IsRowStep x name last keys step
-made_some x name last keys o step is told =
-    subst (λ (q : Option Step). IfSome q (λ (s : Step). IsRowStep x name last keys s)) is told
+pub made_row : (x : ℕ) (name : Name) (last : Sheet) (keys : List Key) (made : Result (Option Step) DbError)
+    (some : Result Step DbError) (step : Step) → Some some ≡ result_transpose made → some ≡ Ok step
+    → IfOk made (λ o. IfSome o (λ s. IsRowStep x name last keys s)) → IsRowStep x name last keys step
+made_row x name last keys (Ok (Some s)) some step is ok told =
+    let e : s ≡ step = cc in subst (IsRowStep x name last keys) e told
+made_row x name last keys (Ok None) some step is ok told = let n : ⊥ = cc in absurd n
+made_row x name last keys (Err e) some step is ok told = let n : ⊥ = cc in absurd n
 
-pub full_none : (A : Type 0) (o : Option Step) → o ≡ None → IfNone o A → A
-full_none A o is told = subst (λ (q : Option Step). IfNone q A) is told
+-- it isn't for want of memory alone
+pub told_memory : (made : Result (Option Step) DbError) (some : Result Step DbError) → Some some ≡ result_transpose made
+    → IfErr made (λ e. e ≡ OutOfMemory) → IfErr some (λ e. e ≡ OutOfMemory)
+told_memory (Ok (Some s)) some is memory =
+    let e : some ≡ Ok s = cc in subst (λ (r : Result Step DbError). IfErr r (λ e. e ≡ OutOfMemory)) (sym e) tt
+told_memory (Ok None) some is memory = let n : ⊥ = cc in absurd n
+told_memory (Err w) some is memory =
+    let e : some ≡ Err w = cc in subst (λ (r : Result Step DbError). IfErr r (λ e. e ≡ OutOfMemory)) (sym e) memory
+
+pub full_none : (A : Type 0) (made : Result (Option Step) DbError) (some : Option (Result Step DbError))
+    → some ≡ result_transpose made → ((r : Result Step DbError) → some ≡ Some r → ⊥) → IfOk made (λ o. IfNone o A) → A
+full_none A (Ok (Some s)) some is none told = absurd (none (Ok s) is)
+full_none A (Ok None) some is none told = told
+full_none A (Err e) some is none told = absurd (none (Err e) is)
 
 -- where it has no other case
 pub is_none : (o : Option Sheet) → ((x : Sheet) → o ≡ Some x → ⊥) → o ≡ None

@@ -28,9 +28,9 @@ use Rattle.engine.specs.Db.{DbValue, fault_of}
 use Rattle.engine.specs.Going.{Goes, stays}
 use Rattle.engine.specs.Places.{HasNoRoomOnList}
 use Rattle.engine.specs.Work.{ArePut, AreIndexing, AreStored, IsPlaceOf, IsRowPageOf, IsLinkOf}
-use Rattle.engine.specs.Inner.Changing.{doc_of}
+use Rattle.engine.specs.Inner.Changing.{doc_of, IsBadPut}
 use Rattle.engine.specs.Inner.Indexing.{CannotAddRow, CannotPutRows, CannotLink, Indexes, NeedsRowPage}
-use Rattle.engine.specs.Inner.Indexing.{CannotIndex, Stores, NeedsPageAt, CannotStore, IsBadRowPage, IsDueFrom}
+use Rattle.engine.specs.Inner.Indexing.{CannotIndex, Stores, NeedsPageAt, CannotStore, IsDueFrom}
 use Rattle.engine.specs.Inner.Indexing.{IsIndexedBy}
 use Rattle.engine.specs.Inner.Parts.{Puts, NeedsPageFor, CannotPut}
 use Rattle.engine.specs.declared.error.DbError.{DbError}
@@ -215,7 +215,7 @@ module _ {D : Type 0} (device : Disk D) (old : DbValue D) (x : ℕ) (name : Name
     pages_cause n (store.BadPage p) many why =
         let r = some_row_page x (doc_of name) in
         stopped_at x (doc_of name) keys packed pack why.done why.are_put device old
-        (λ (s : DbValue D) (q : Record). IsBadRowPage device s name p ⊎ IsBadList s p) why.store r.0
+        (λ (s : DbValue D) (q : Record). IsBadPut s name p ⊎ IsBadList s p) why.store r.0
         (subst (λ (k : ℕ). length why.done < k) many why.few) r.1 (goes_on device before why.goes) (inl why.why)
     pages_cause n store.DiskFault many why = tt
     pages_cause n store.OutOfMemory many why = tt
@@ -227,7 +227,7 @@ module _ {D : Type 0} (device : Disk D) (old : DbValue D) (x : ℕ) (name : Name
         (many : length done ≡ length packed) (goes : Goes device mid all done)
         (still : fault_of all ≡ fault_of mid) where
       bad_link : (z : DbValue D) (p : ℕ) → ((p ≡ name.page) × IsNone z (HasHeadIn z name.slot) p) ⊎ IsBadList z p
-          → IsBadRowPage device z name p ⊎ IsBadList z p
+          → IsBadPut z name p ⊎ IsBadList z p
       bad_link z p (inl own) = inl (inl own)
       bad_link z p (inr list) = inr list
 
@@ -241,7 +241,7 @@ module _ {D : Type 0} (device : Disk D) (old : DbValue D) (x : ℕ) (name : Name
       link_cause (store.BadPage p) why =
           let r = some_link x (doc_of name) in
           unlinked_at x (doc_of name) keys packed pack done are device old
-          (λ (s : DbValue D) (q : Record). IsBadRowPage device s name p ⊎ IsBadList s p) why.0 r.0 many r.1
+          (λ (s : DbValue D) (q : Record). IsBadPut s name p ⊎ IsBadList s p) why.0 r.0 many r.1
           (goes_still device (goes_on device before goes) why.1) (bad_link why.0 p why.2)
       link_cause store.DiskFault why = tt
       link_cause store.OutOfMemory why = tt
@@ -355,7 +355,7 @@ module _ {D : Type 0} (device : Disk D) (old : DbValue D) (x : ℕ) (bytes : Lis
           by [] none = absurd none
           by (r ∷ qs) a = (r, inl refl, a.0)
 
-      bad_now : (z : DbValue D) (rs : List Record) (p : ℕ) → IsBadRowPage device z name p ⊎ IsBadList z p
+      bad_now : (z : DbValue D) (rs : List Record) (p : ℕ) → IsBadPut z name p ⊎ IsBadList z p
           → IsBadPage z (λ (n : Name). ⊥) (puts ++ rs) p ⊎ IsBadList z p
       bad_now z rs p (inr list) = inr list
       bad_now z rs p (inl (inr new)) = inl (IsBadPage.new new.0 new.1 new.2)
@@ -392,7 +392,7 @@ module _ {D : Type 0} (device : Disk D) (old : DbValue D) (x : ℕ) (bytes : Lis
           (λ (s : DbValue D) (rs : List Record) (r : Record). IsDue device old keys rs r.kind × HasNoRoomFor s r)
           (λ s rs r met. (due_then rs r.kind met.0, met.1)) why
       index_cause (store.BadPage p) why = indexed_at
-          (λ (s : DbValue D) (r : Record). IsBadRowPage device s name p ⊎ IsBadList s p)
+          (λ (s : DbValue D) (r : Record). IsBadPut s name p ⊎ IsBadList s p)
           (λ (s : DbValue D) (rs : List Record) (r : Record). IsBadPage s (λ (n : Name). ⊥) rs p ⊎ IsBadList s p)
           (λ s rs r met. bad_now s rs p met) why
       index_cause store.DiskFault why = tt

@@ -1,6 +1,6 @@
 -- What the refusal of a mark tells of a lawful store: a document of the snapshot has its head on its page.
-use Rattle.std.proofs.Common.{◌≡◌, ◌≢◌, ◌⊎◌, inl, inr, ℕ, refl, sym, ap, ap₂, subst, ◌∙◌, arith}
-use Rattle.std.specs.Prelude.{Option, Some, None, IfSome}
+use Rattle.std.proofs.Common.{◌≡◌, ◌≢◌, inl, inr, ℕ, refl, sym, ap, ap₂, subst, ◌∙◌, arith}
+use Rattle.std.specs.Prelude.{Option, Some, None, IfSome, Result, IfErr}
 use Rattle.disk_trait.specs.declared.device.Disk.{Ghosts as Disk}
 use Rattle.page_types.specs.Pages.{IsPage}
 use Rattle.page_types.specs.Views.{slots_of, slot_at}
@@ -19,11 +19,13 @@ use Rattle.doc_heap.specs.HeapPages.{head_on}
 use Rattle.buffer_frames.specs.declared.pass.Pass.{Pass}
 use Rattle.buffer_frames.specs.declared.pass.Pinned.{Pinned}
 use Rattle.buffer_frames.proofs.FirstLogs.{shown_by}
-use Rattle.engine.specs.Causes.{IsDown, IsHeap, IsNone, IsNoPageAt}
+use Rattle.core_state.specs.Allowed.{Step}
+use Rattle.buffer_frames.specs.Journals.{next_record}
+use Rattle.engine.specs.Causes.{IsHeap, IsNone, IsNoPageAt}
 use Rattle.engine.specs.Db.{DbValue, state_of}
 use Rattle.engine.specs.Places.{Lies}
 use Rattle.engine.specs.Inner.Parts.{IsRunning, CannotHold, IsUnseen, TellsOfMark}
-use Rattle.engine.specs.Inner.Changing.{MayNotBeMarked, CannotLog}
+use Rattle.engine.specs.Inner.Changing.{MayNotBeMarked, CannotMakeMark, CannotLog, CannotLogMade}
 use Rattle.engine.specs.declared.transaction.Transaction.{Transaction}
 use Rattle.engine.specs.declared.error.DbError.{DbError}
 use Rattle.engine.specs.declared.error.DbError.TheVariants.{NoDocument, Conflict, LogFull, Down, DiskFault, BadPage}
@@ -113,17 +115,28 @@ module _ {D : Type 0} (device : Disk D) (old : DbValue D) (pass : Pass) (t : Tra
     page_tells (Conflict y) w = tt
     page_tells _ w = absurd w
 
-    pub refusal_tells : (m : DbValue D) (e : DbError)
-        → ((f : ℕ) × (e ≡ Down f) × IsDown m f) ⊎ MayNotBeMarked s t.snapshot t.xid name c e
-        → TellsOfMark device old t.snapshot name e
-    refusal_tells m e (inl d) = subst (TellsOfMark device old t.snapshot name) (sym d.1) tt
-    refusal_tells m e (inr w) = page_tells e w
+    refusal_tells : (b : DbValue D) (e : DbError)
+        → CannotMakeMark b s t.snapshot t.xid name c e → TellsOfMark device old t.snapshot name e
+    refusal_tells b e (inl memory) = subst (TellsOfMark device old t.snapshot name) (sym memory) tt
+    refusal_tells b e (inr (inl d)) = subst (TellsOfMark device old t.snapshot name) (sym d.1) tt
+    refusal_tells b e (inr (inr w)) = page_tells e w
 
   -- its record isn't logged
-  pub log_tells : (m : DbValue D) (r : Record) (e : DbError) → CannotLog m r e
+  log_tells : (m : DbValue D) (r : Record) (e : DbError) → CannotLog m r e
       → TellsOfMark device old t.snapshot name e
   log_tells m r (Down f) c = tt
   log_tells m r LogFull c = tt
   log_tells m r DiskFault c = tt
   log_tells m r OutOfMemory c = tt
   log_tells m r _ c = absurd c
+
+  -- nor is the step that was to mark it
+  pub mark_tells_made : (c : Page) → IsPage c → Lies old name.page c → (s : StateValue) → s ≡ state_of old
+      → (b m : DbValue D) (made : Result Step DbError) → IfErr made (CannotMakeMark b s t.snapshot t.xid name c) → (e : DbError)
+      → CannotLogMade m made e → TellsOfMark device old t.snapshot name e
+  mark_tells_made c page lies s same b m made why e (inl is) = refusal_tells c page lies s same b e
+      (subst (λ (r : Result Step DbError). IfErr r (CannotMakeMark b s t.snapshot t.xid name c)) is why)
+  mark_tells_made c page lies s same b m made why e (inr (inl memory)) =
+      subst (TellsOfMark device old t.snapshot name) (sym memory) tt
+  mark_tells_made c page lies s same b m made why e (inr (inr w)) =
+      log_tells m (next_record m.frames.journal w.0) e w.2

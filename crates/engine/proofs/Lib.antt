@@ -32,6 +32,7 @@ pub mod Standings
 pub mod Placing
 pub mod Parts
 pub mod PartPuts
+pub mod NewPuts
 pub mod Puts
 pub mod Running
 pub mod Lawful
@@ -40,7 +41,6 @@ pub mod HeapPagesKept
 pub mod Putting
 pub mod RowsKept
 pub mod RowPages
-pub mod RowCauses
 pub mod AddedRows
 pub mod Linking
 pub mod LinkAnswers

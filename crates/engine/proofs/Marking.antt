@@ -2,7 +2,7 @@
 use Rattle.std.proofs.Common.{◌≡◌, ◌≢◌, ◌⊎◌, ◌≤◌, ◌<◌, ◌^◌, ℕ, List, [], ◌∷◌, ◌++◌, map, refl, sym, ap, subst, ◌∙◌}
 use Rattle.std.proofs.Common.{inl, inr}
 use Rattle.std.proofs.Common.{⊎_elim, arith}
-use Rattle.std.specs.Prelude.{Option, Some}
+use Rattle.std.specs.Prelude.{Option, Some, Result, Err, OnOk, IfOk, IfErr}
 use Rattle.disk_trait.specs.declared.device.Disk.{Ghosts as Disk}
 use Rattle.page_types.specs.Numbers.{most_slots}
 use Rattle.page_types.specs.Pages.{IsPage}
@@ -38,7 +38,7 @@ use Rattle.buffer_frames.specs.Frames.{Stands, Behind}
 use Rattle.buffer_frames.specs.Passes.{IsPassOf, IsHolding, Seen, view_of}
 use Rattle.buffer_frames.specs.declared.pass.Pass.{Pass}
 use Rattle.buffer_frames.proofs.AtHand.{cut_whole, log_length}
-use Rattle.engine.specs.Causes.{IsPastOf, IsDown, ShowsHead, IsInConflict, MayBeDeleted, IsHeap, IsNone, IsNoPageAt}
+use Rattle.engine.specs.Causes.{IsPastOf, ShowsHead, IsInConflict, MayBeDeleted, IsHeap, IsNone, IsNoPageAt}
 use Rattle.engine.specs.Going.{Goes, stays}
 use Rattle.engine.specs.Places.{Lies}
 use Rattle.engine.specs.Work.{IsMarkOf}
@@ -48,7 +48,7 @@ use Rattle.engine.specs.declared.error.DbError.TheVariants.{OutOfMemory}
 use Rattle.engine.specs.Db.{DbValue, state_of, state_then, fault_of}
 use Rattle.engine.specs.Inner.Parts.{HasChanged, AreIndexed, CannotHold, CannotMark, no_changes, only_deleted}
 use Rattle.engine.specs.Inner.Changing.{doc_of, IsMarkStep, MayBeMarked, IsMarkedBy, MayNotBeMarked, ChangesDocument}
-use Rattle.engine.specs.Inner.Changing.{MayLogStep, LogsStep, CannotLog}
+use Rattle.engine.specs.Inner.Changing.{MayLogStep, LogsStep, CannotLog, CannotLogMade, CannotMakeMark}
 use Rattle.engine.proofs.Choosing.{lies_one, none_at}
 use Rattle.engine.proofs.StepSeen.{GrowsBy, after_step, owes_of, own_here, own_begun, runs_still}
 
@@ -311,10 +311,11 @@ module _ {D : Type 0} (device : Disk D) (a : DbValue D) (n x : ℕ) (name : Name
     by_page _ w = absurd w
 
     -- why it isn't marked
-    pub cause_of : (m : DbValue D) (e : DbError) → fault_of m ≡ fault_of a
-        → ((f : ℕ) × (e ≡ Down f) × IsDown m f) ⊎ MayNotBeMarked s n x name c e → CannotMark device a n x name e
-    cause_of m e down (inl d) = subst (CannotMark device a n x name) (sym d.1) (sym down ∙ d.2)
-    cause_of m e down (inr w) = by_page e w
+    cause_of : (m : DbValue D) (e : DbError) → fault_of m ≡ fault_of a
+        → CannotMakeMark m s n x name c e → CannotMark device a n x name e
+    cause_of m e down (inl memory) = subst (CannotMark device a n x name) (sym memory) tt
+    cause_of m e down (inr (inl d)) = subst (CannotMark device a n x name) (sym d.1) (sym down ∙ d.2)
+    cause_of m e down (inr (inr w)) = by_page e w
 
   pub held_cause : (e : DbError) → CannotHold device a name.page IsNoPageAt e → CannotMark device a n x name e
   held_cause (Down f) c = c
@@ -331,3 +332,32 @@ module _ {D : Type 0} (device : Disk D) (a : DbValue D) (n x : ℕ) (name : Name
   logged_cause m r DiskFault goes down may is c = tt
   logged_cause m r OutOfMemory goes down may is c = tt
   logged_cause m r _ goes down may is c = absurd c
+
+  -- the step that was to mark it isn't logged
+  module _ (c : Page) (page : IsPage c) (lies : Lies a name.page c) (s : StateValue) (same : s ≡ state_of a)
+      (b m : DbValue D) (down : fault_of b ≡ fault_of a) (goes : Goes device a m []) (still : fault_of m ≡ fault_of a)
+      (made : Result Step DbError)
+      (why : IfErr made (CannotMakeMark b s n x name c)) where
+    pub mark_not_logged : OnOk made (MayBeMarked s n x name c) → IfOk made (λ q. IsMarkStep x name c q) → (e : DbError)
+        → CannotLogMade m made e → CannotMark device a n x name e
+    mark_not_logged may marks e (inl is) = cause_of c page lies s same b e down
+        (subst (λ (r : Result Step DbError). IfErr r (CannotMakeMark b s n x name c)) is why)
+    mark_not_logged may marks e (inr (inl memory)) = subst (CannotMark device a n x name) (sym memory) tt
+    mark_not_logged may marks e (inr (inr w)) =
+        let may_be : MayBeMarked s n x name c =
+        subst (λ (r : Result Step DbError). OnOk r (MayBeMarked s n x name c)) w.1 may in
+        let marks_one : IsMarkStep x name c w.0 =
+        subst (λ (r : Result Step DbError). IfOk r (λ q. IsMarkStep x name c q)) w.1 marks in
+        logged_cause m (next_record m.frames.journal w.0) e goes still (there_of c page lies s same may_be)
+        (marks_it m c w.0 marks_one) w.2
+
+-- no write failed where it isn't made
+pub mark_calm : {D : Type 0} (b : DbValue D) (s : StateValue) (n x : ℕ) (name : Name) (c : Page)
+    (made : Result Step DbError) → IfErr made (CannotMakeMark b s n x name c) → made ≡ Err DiskFault → ⊥
+mark_calm b s n x name c made why is =
+    by (subst (λ (r : Result Step DbError). IfErr r (CannotMakeMark b s n x name c)) is why)
+  where
+    by : CannotMakeMark b s n x name c DiskFault → ⊥
+    by (inl e) = cc
+    by (inr (inl d)) = let e : DiskFault ≡ Down d.0 = d.1 in cc
+    by (inr (inr w)) = w

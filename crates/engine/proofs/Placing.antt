@@ -1,8 +1,8 @@
 -- The head of a document is placed: what is logged, and what the transaction has placed then.
 use Rattle.std.proofs.Common.{◌≡◌, ◌≢◌, ◌<◌, ℕ, List, [], ◌∷◌, ◌++◌, map, refl, sym, ap, subst, ◌∙◌}
-use Rattle.std.proofs.Common.{inl}
+use Rattle.std.proofs.Common.{inl, inr}
 use Rattle.std.proofs.Common.{⊎_elim, arith}
-use Rattle.std.specs.Prelude.{Option, Some}
+use Rattle.std.specs.Prelude.{Option, Some, Result, Ok, IfErr}
 use Rattle.std.proofs.lemmas.List.{append-nil}
 use Rattle.disk_trait.specs.declared.device.Disk.{Ghosts as Disk}
 use Rattle.page_types.specs.Numbers.{page_limit, most_slots}
@@ -16,7 +16,7 @@ use Rattle.page_types.specs.declared.record.Record.{Record}
 use Rattle.page_types.specs.declared.record.Kind.{Kind}
 use Rattle.page_types.specs.declared.record.Kind.TheVariants as kind
 use Rattle.core_state.specs.Log.{Log, Pages, fate}
-use Rattle.core_state.specs.Allowed.{Sheet, MayLog, made_by, drawn_body, numbered, with_serial}
+use Rattle.core_state.specs.Allowed.{Sheet, Step, MayLog, made_by, drawn_body, numbered, with_serial}
 use Rattle.core_state.specs.Documents.{Doc, doc_at, item_at, page_of, slot_of, name_of, placed_with, placed}
 use Rattle.core_state.specs.Documents.{marked_with, marked, head_of}
 use Rattle.core_state.specs.History.{Commit, Document, AreInserts, IsCommitOf}
@@ -41,7 +41,7 @@ use Rattle.engine.specs.Places.{head_for, NoHeapPageHasRoom}
 use Rattle.engine.specs.Work.{IsPlaceOf}
 use Rattle.engine.specs.Inner.Choosing.{CannotChoose}
 use Rattle.engine.specs.Inner.Parts.{Runs, IsPlacedSoFar, AreIndexed, HasChanged, HasPlaced}
-use Rattle.engine.specs.Inner.Changing.{MayLogStep, LogsStep, CannotLog, CannotPlace, place_of}
+use Rattle.engine.specs.Inner.Changing.{MayLogStep, LogsStep, CannotLog, CannotLogMade, CannotPlace, place_of}
 use Rattle.engine.specs.declared.error.DbError.{DbError}
 use Rattle.engine.specs.declared.error.DbError.TheVariants.{StoreFull, LogFull, Down, DiskFault, BadPage, OutOfMemory}
 use Rattle.engine.proofs.Growing.{stays_for}
@@ -197,13 +197,24 @@ module _ {D : Type 0} (device : Disk D) (a : DbValue D) (x : ℕ) (bytes : List 
   choose_cause h OutOfMemory is c = tt
   choose_cause h _ is c = absurd c
 
-  pub place_cause : (m : DbValue D) (d : Doc) (r : Record) (e : DbError) → Goes device a m []
+  place_cause : (m : DbValue D) (d : Doc) (r : Record) (e : DbError) → Goes device a m []
       → fault_of m ≡ fault_of a → IsPlaceOf x d r → CannotLog m r e → CannotPlace device a x bytes e
   place_cause m d r (Down f) goes down is c = sym down ∙ c
   place_cause m d r LogFull goes down is c = (m, goes, (d, r, is, c))
   place_cause m d r DiskFault goes down is c = tt
   place_cause m d r OutOfMemory goes down is c = tt
   place_cause m d r _ goes down is c = absurd c
+
+  -- nor is the step that was to place it
+  pub place_not_logged : (m : DbValue D) (d : Doc) (made : Result Step DbError) → Goes device a m []
+      → fault_of m ≡ fault_of a → IfErr made (λ e. e ≡ OutOfMemory)
+      → ((s : Step) → made ≡ Ok s → IsPlaceOf x d (next_record m.frames.journal s)) → (e : DbError)
+      → CannotLogMade m made e → CannotPlace device a x bytes e
+  place_not_logged m d made goes down memory one e (inl is) = subst (CannotPlace device a x bytes)
+      (sym (subst (λ (r : Result Step DbError). IfErr r (λ w. w ≡ OutOfMemory)) is memory)) tt
+  place_not_logged m d made goes down memory one e (inr (inl is)) = subst (CannotPlace device a x bytes) (sym is) tt
+  place_not_logged m d made goes down memory one e (inr (inr why)) =
+      place_cause m d (next_record m.frames.journal why.0) e goes down (one why.0 why.1) why.2
 
   -- a lawful store has no bad page
   pub choose_lawful : (h : Head) (e : DbError) → CannotChoose device a h e → MeetsNoBadPage device a e

@@ -26,7 +26,7 @@ use Rattle.engine.specs.Going.{Goes, MetNoFault}
 use Rattle.engine.specs.Work.{IsPlaceOf, IsPartOf, AreParts, ArePut, parts_for}
 use Rattle.engine.specs.Inner.Parts.{IsRunning, KeepsWork, HasChanged, HasPlaced, HasRows, Puts, NeedsPageFor}
 use Rattle.engine.specs.Inner.Parts.{CannotPut}
-use Rattle.engine.specs.Inner.Changing.{doc_of, IsNextPart, IsNoNewPage, CannotPlace, CannotPutPart}
+use Rattle.engine.specs.Inner.Changing.{doc_of, IsNextPart, IsNoNewPage, CannotPlace, CannotPutNew}
 use Rattle.engine.specs.declared.transaction.Transaction.{Transaction}
 use Rattle.engine.specs.declared.error.DbError.{DbError}
 use Rattle.engine.specs.declared.error.DbError.TheVariants as store
@@ -314,7 +314,7 @@ module _ {D : Type 0} (device : Disk D) where
     bad_part z p (inl own) = own_bad z p own.0 own.1
     bad_part z p (inr new) = IsBadPage.new new.0 new.1 new.2
 
-    pub part_cause : (e : DbError) → done < parts_for (length bytes) → CannotPutPart device mid t.xid name e
+    pub part_cause : (e : DbError) → done < parts_for (length bytes) → CannotPutNew device (IsPartOf t.xid (doc_of name)) mid name e
         → CannotPut device old t.xid bytes e
     part_cause (store.Down f) lt why = sym (s.met).down ∙ why
     part_cause store.StoreFull lt why =

@@ -23,8 +23,8 @@ use Rattle.engine.specs.Answers.{MeetsNoBadPage}
 use Rattle.engine.specs.Db.{DbValue}
 use Rattle.engine.specs.Going.{Goes, stays, MetNoFault}
 use Rattle.engine.specs.Work.{IsRowPageOf}
-use Rattle.engine.specs.Inner.Changing.{doc_of}
-use Rattle.engine.specs.Inner.Indexing.{IsNextPage, last_then, PutsRows, CannotPutRowPage, CannotPutRows}
+use Rattle.engine.specs.Inner.Changing.{doc_of, CannotPutNew}
+use Rattle.engine.specs.Inner.Indexing.{IsNextPage, last_then, PutsRows, CannotPutRows}
 use Rattle.engine.specs.Inner.Parts.{IsRunning, KeepsWork, HasRows}
 use Rattle.engine.specs.declared.error.DbError.{DbError}
 use Rattle.engine.specs.declared.error.DbError.TheVariants as store
@@ -188,7 +188,7 @@ module _ {D : Type 0} (device : Disk D) where
       why = why;
     }
 
-    pub rows_cause : (e : DbError) → CannotPutRowPage device mid t.xid name e
+    pub rows_cause : (e : DbError) → CannotPutNew device (IsRowPageOf t.xid (doc_of name)) mid name e
         → CannotPutRows device old t.xid name (length all) e
     rows_cause (store.Down f) why = sym (s.met).down ∙ why
     rows_cause store.StoreFull why = stopped _ why.0 why.1 why.2

@@ -89,6 +89,12 @@ module _ {D : Type 0} (device : Disk D) where
   Answers T name old new pass w (Ok a) = HasCommitted device old new pass w (name a)
   Answers T name old new pass w (Err e) = HasRefused device old new w e
 
+  -- a store that was up is so where its work was done
+  pub up_after : {T : Type 0} (s d : DbValue D) (r : Result T DbError) → IsUp s → FaultIsTold device s d r
+      → OnOk r (IsUp d)
+  up_after s d (Ok x) up met = met.down ∙ up
+  up_after s d (Err e) up met = tt
+
   pub stored : (old new : DbValue D) (pass : Pass) (w : Work) (r : Result Name DbError)
       → Answers Name (λ n. n) old new pass w r → HasStored device old new pass w r
   stored old new pass w (Ok n) a = a

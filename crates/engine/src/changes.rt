@@ -1,6 +1,6 @@
 // What a transaction changes: documents are marked deleted and placed.
 ghost use Rattle.std.specs.Prelude.{◌≡◌, ◌≢◌, ◌⊎◌, ℕ, ◌+◌, ◌*◌, ◌^◌, ◌<◌, ◌≤◌, List, [], ◌∷◌, ◌++◌, length, take, drop};
-ghost use Rattle.std.specs.Prelude.{Some, None, IsSome, IfOk, IfErr, OnOk, OnErr, MatchOption};
+ghost use Rattle.std.specs.Prelude.{Some, None, Ok, Err, IsSome, IfOk, IfErr, OnOk, OnErr, MatchOption, vec_capacity};
 ghost use Rattle.page_types.specs.Numbers.{most_body, most_short, most_slots, page_limit};
 ghost use Rattle.page_types.specs.Pages.{IsHead, IsPage};
 ghost use Rattle.page_types.specs.declared.page.Head.{Head as HeadValue};
@@ -147,10 +147,11 @@ fn part_step(
 }
 
 /// The step that marks the head of this name on its page.
-fn mark_step(alloc: Global, xid: u32, name: Name, held: &Held) -> Result<Step, AllocError>
+fn mark_step(alloc: Global, xid: u32, name: Name, held: &Held) -> Result<Step, DbError>
     requires page { held.now.page ≡ name.page }
     requires there { IsSome (head_on held.now.content name.slot) }
-    ensures { IfOk result (λ s. IsMarkStep xid name held.now.content s) }
+    ensures step { IfOk result (λ s. IsMarkStep xid name held.now.content s) }
+    ensures memory { IfErr result (λ e. e ≡ OutOfMemory) }
 {
     let number = held.number();
     let mut marked = held.page().clone()?;
@@ -166,15 +167,10 @@ fn mark_step(alloc: Global, xid: u32, name: Name, held: &Held) -> Result<Step, A
 
 /// The step that leaves this page, on which a head is placed in the slot. Its serial is drawn when it
 /// is logged.
-fn place_step(
-    alloc: Global,
-    xid: u32,
-    number: u32,
-    slot: u16,
-    page: Page,
-) -> Result<Step, AllocError>
+fn place_step(alloc: Global, xid: u32, number: u32, slot: u16, page: Page) -> Result<Step, DbError>
     requires { (number < page_limit) × (slot < most_slots) }
-    ensures { IfOk result (λ s. s ≡ place_of xid number slot page) }
+    ensures step { IfOk result (λ s. s ≡ place_of xid number slot page) }
+    ensures memory { IfErr result (λ e. e ≡ OutOfMemory) }
 {
     let serial = 0;
     let name = Name {
@@ -189,6 +185,22 @@ fn place_step(
     let mut step = Step::new(alloc, kind, xid);
     step.leave(Sheet::new(number, page))?;
     Ok(step)
+}
+
+/// The step that was made, and room for so many pages to log it with.
+pub(crate) fn with_room(
+    alloc: Global,
+    made: Result<Step, DbError>,
+    pages: usize,
+) -> Result<(Step, Vec<Held>), DbError>
+    ensures made { IfOk result (λ r. made ≡ Ok r.0) }
+    ensures none { IfOk result (λ r. (r.1).items ≡ []) }
+    ensures room { IfOk result (λ r. pages ≤ vec_capacity r.1) }
+    ensures cause { IfErr result (λ e. (made ≡ Err e) ⊎ (e ≡ OutOfMemory)) }
+{
+    let step = made?;
+    let room = Vec::with_capacity(alloc, pages)?;
+    Ok((step, room))
 }
 
 /// The fields of the head of this name, if it is on the page.
@@ -229,58 +241,66 @@ impl<D: Disk> Db<D> {
     ghost use Rattle.core_state.specs.States.{StateTells};
     ghost use Rattle.buffer_frames.specs.Drawing.{drawn_by};
     ghost use Rattle.buffer_frames.specs.Frames.{KeepsState};
-    ghost use Rattle.buffer_frames.specs.Journals.{next_record};
     ghost use Rattle.buffer_frames.specs.Passes.{IsPassOf, IsHolding, Seen as SeenBy};
     ghost use Rattle.engine.specs.Db.{state_of, state_then};
     ghost use Rattle.core_state.specs.Documents.{Doc};
     ghost use Rattle.engine.specs.Finding.{Name as NameValue};
     ghost use Rattle.engine.specs.Work.{IsMarkOf, IsPlaceOf, IsPartOf, ArePut};
     ghost use Rattle.engine.specs.Going.{Goes, FaultIsTold, MetNoFault};
-    ghost use Rattle.engine.specs.Causes.{MayBeDeleted, IsDown};
+    ghost use Rattle.engine.specs.Causes.{MayBeDeleted};
     ghost use Rattle.engine.specs.Answers.{MeetsNoBadPage};
-    ghost use Rattle.engine.specs.Inner.Changing.{doc_of, MayBeMarked, MayNotBeMarked, MayLogStep, LogsStep, CannotLog};
-    ghost use Rattle.engine.specs.Inner.Changing.{CannotPlace, CannotPutPart, IsNextPart};
+    ghost use Rattle.core_state.specs.Allowed.{Step as StepValue};
+    ghost use Rattle.engine.specs.Inner.Changing.{doc_of, MayBeMarked, CannotMakeMark, MayLogMade, LogsMade};
+    ghost use Rattle.engine.specs.Inner.Changing.{CannotLogMade, CannotPlace, CannotPutNew, IsNextPart};
     ghost use Rattle.engine.specs.Inner.Parts.{IsRunning, HasChanged, HasPlaced, CarriesOwn, Later, CannotMark};
     ghost use Rattle.engine.specs.Inner.Parts.{TellsOfMark, CannotPut, KeepsWork, no_changes, only_deleted};
     ghost use Rattle.engine.specs.Inner.Parts.{HasRows};
-    ghost use Rattle.engine.specs.declared.error.DbError.TheVariants.{Down};
 
-    /// Logs a step on one page that is held; it is given back.
-    fn log_one(&mut self, pass: &mut Pass, held: Held, step: Step) -> Result<Drawn, DbError>
-        requires { MayLogStep D.Disk self.old pass.old (held ∷ []) step }
+    /// Logs the step that was made, if any was, on one page that is held; the page is given back.
+    fn log_one(
+        &mut self,
+        pass: &mut Pass,
+        held: Held,
+        made: Result<Step, DbError>,
+    ) -> Result<Drawn, DbError>
+        requires { MayLogMade D.Disk self.old pass.old (held ∷ []) made }
         ensures pass { IsPassOf self.new.frames pass.new }
         ensures none_held { pass.new.held ≡ 0 }
         ensures keeps { KeepsWork pass.old pass.new }
         ensures logged { OnOk result
-            (LogsStep D.Disk self.old pass.old (held ∷ []) step self.new pass.new) }
-        ensures drawn { IfOk result (λ d. d ≡ drawn_by (state_then self.old) step.kind) }
+            (LogsMade D.Disk self.old pass.old (held ∷ []) made self.new pass.new) }
+        ensures drawn { IfOk result (λ d. (s : StepValue) → made ≡ Ok s
+            → d ≡ drawn_by (state_then self.old) s.kind) }
         ensures fault { FaultIsTold D.Disk self.old self.new result }
 
         // The refusals: the record isn't there.
         ensures refused { OnErr result (Goes D.Disk self.old self.new []) }
         ensures carries { OnErr result (CarriesOwn D.Disk self.old pass.old self.new pass.new) }
-        ensures cause { IfErr result
-            (λ e. CannotLog self.old (next_record self.old.frames.journal step) e) }
+        ensures cause { IfErr result (λ e. CannotLogMade self.old made e) }
     {
-        let mut pages = Vec::new(self.alloc);
-        if pages.reserve(1).is_err() {
-            self.frames.release(pass, held);
-            return Err(DbError::OutOfMemory);
+        match with_room(self.alloc, made, 1) {
+            Ok((step, mut pages)) => {
+                pages.push_reserved(held);
+                self.log_pages(pass, pages, step)
+            }
+            Err(error) => {
+                self.give_back(pass, held);
+                Err(error)
+            }
         }
-        pages.push_reserved(held);
-        Ok(self.frames.log_step(pass, pages, step)?)
     }
 
-    /// Whether the document of this name may be marked by the transaction, whose page is held.
-    fn may_mark(
+    /// The step that marks the document of this name, whose page is held, where the transaction may mark it.
+    fn mark_held(
         &mut self,
         pass: &mut Pass,
         work: Transaction,
         held: &Held,
         name: Name,
-    ) -> Result<(), DbError>
+    ) -> Result<Step, DbError>
         requires pass { IsPassOf self.old.frames pass.old }
         requires holding { IsHolding D.Disk self.old.frames pass.old (held.now ∷ []) }
+        requires page { held.now.page ≡ name.page }
         ensures pass { IsPassOf self.new.frames pass.new }
         ensures holding { IsHolding D.Disk self.new.frames pass.new (held.now ∷ []) }
         ensures carries { CarriesOwn D.Disk self.old pass.old self.new pass.new }
@@ -289,13 +309,14 @@ impl<D: Disk> Db<D> {
         ensures keeps { KeepsWork pass.old pass.new }
         ensures fault { MetNoFault D.Disk self.old self.new }
         ensures is_page { IsPage held.now.content }
+        ensures step { IfOk result (λ s. IsMarkStep work.xid name held.now.content s) }
         ensures may { OnOk result
             (MayBeMarked (state_of self.new) work.snapshot work.xid name held.now.content) }
         ensures all { OnOk result (pass.new.seen ≡ (state_of self.new).records) }
         ensures told { OnOk result (SeenBy D.Disk self.new.frames pass.new
             (λ S P. StateTells S (state_of self.new))) }
-        ensures cause { IfErr result (λ e. ((f : ℕ) × (e ≡ Down f) × IsDown self.old f)
-            ⊎ MayNotBeMarked (state_of self.new) work.snapshot work.xid name held.now.content e) }
+        ensures cause { IfErr result (λ e. CannotMakeMark self.old (state_of self.new) work.snapshot work.xid
+            name held.now.content e) }
     {
         if !is_heap(held.page()) {
             return Err(DbError::BadPage { page: name.page });
@@ -309,7 +330,8 @@ impl<D: Disk> Db<D> {
             commits: work.snapshot,
         };
         let standing = self.frames.look(pass, &ask)?;
-        allows(standing, work.xid)
+        allows(standing, work.xid)?;
+        mark_step(self.alloc, work.xid, name, held)
     }
 
     /// Marks the document of this name deleted.
@@ -338,20 +360,9 @@ impl<D: Disk> Db<D> {
         ensures lawful { IfErr result (λ e. TellsOfMark D.Disk self.old work.snapshot name e) }
     {
         let held = self.hold_page(pass, name.page)?;
-        if let Err(error) = self.may_mark(pass, work, &held, name) {
-            self.frames.release(pass, held);
-            return Err(error);
-        }
-        match mark_step(self.alloc, work.xid, name, &held) {
-            Ok(step) => {
-                self.log_one(pass, held, step)?;
-                Ok(())
-            }
-            Err(_) => {
-                self.frames.release(pass, held);
-                Err(DbError::OutOfMemory)
-            }
-        }
+        let made = self.mark_held(pass, work, &held, name);
+        self.log_one(pass, held, made)?;
+        Ok(())
     }
 
     /// Places the head of a document with a vector of these bytes: its name.
@@ -383,53 +394,49 @@ impl<D: Disk> Db<D> {
         drop(head);
         let Placed { held, page, slot } = placed?;
         let number = held.number();
-        match place_step(self.alloc, work.xid, number, slot, page) {
-            Ok(step) => {
-                let serial = self.log_one(pass, held, step)?.value;
-                Ok(Name {
-                    page: number,
-                    slot,
-                    serial,
-                })
-            }
-            Err(_) => {
-                self.frames.release(pass, held);
-                Err(DbError::OutOfMemory)
-            }
-        }
+        let made = place_step(self.alloc, work.xid, number, slot, page);
+        let serial = self.log_one(pass, held, made)?.value;
+        Ok(Name {
+            page: number,
+            slot,
+            serial,
+        })
     }
 
-    /// Logs a step on two pages that are held; they are given back.
+    /// Logs the step that was made, if any was, on two pages that are held; they are given back.
     pub(crate) fn log_two(
         &mut self,
         pass: &mut Pass,
         heap: Held,
         new: Held,
-        step: Step,
-    ) -> Result<Drawn, DbError>
-        requires { MayLogStep D.Disk self.old pass.old (new ∷ heap ∷ []) step }
+        made: Result<Step, DbError>,
+    ) -> Result<(), DbError>
+        requires { MayLogMade D.Disk self.old pass.old (new ∷ heap ∷ []) made }
         ensures pass { IsPassOf self.new.frames pass.new }
         ensures none_held { pass.new.held ≡ 0 }
         ensures keeps { KeepsWork pass.old pass.new }
         ensures logged { OnOk result
-            (LogsStep D.Disk self.old pass.old (new ∷ heap ∷ []) step self.new pass.new) }
+            (LogsMade D.Disk self.old pass.old (new ∷ heap ∷ []) made self.new pass.new) }
         ensures fault { FaultIsTold D.Disk self.old self.new result }
 
         // The refusals: the record isn't there.
         ensures refused { OnErr result (Goes D.Disk self.old self.new []) }
         ensures carries { OnErr result (CarriesOwn D.Disk self.old pass.old self.new pass.new) }
-        ensures cause { IfErr result
-            (λ e. CannotLog self.old (next_record self.old.frames.journal step) e) }
+        ensures cause { IfErr result (λ e. CannotLogMade self.old made e) }
     {
-        let mut pages = Vec::new(self.alloc);
-        if pages.reserve(2).is_err() {
-            self.frames.release(pass, new);
-            self.frames.release(pass, heap);
-            return Err(DbError::OutOfMemory);
+        match with_room(self.alloc, made, 2) {
+            Ok((step, mut pages)) => {
+                pages.push_reserved(new);
+                pages.push_reserved(heap);
+                self.log_pages(pass, pages, step)?;
+                Ok(())
+            }
+            Err(error) => {
+                self.give_back(pass, new);
+                self.give_back(pass, heap);
+                Err(error)
+            }
         }
-        pages.push_reserved(new);
-        pages.push_reserved(heap);
-        Ok(self.frames.log_step(pass, pages, step)?)
     }
 
     /// Puts a part of a document's vector on a new page, in front of those that are there.
@@ -459,28 +466,13 @@ impl<D: Disk> Db<D> {
 
         // The refusals: it isn't put.
         ensures refused { OnErr result (Goes D.Disk self.old self.new []) }
-        ensures cause { IfErr result (λ e. CannotPutPart D.Disk self.old work.xid name e) }
+        ensures cause { IfErr result
+            (λ e. CannotPutNew D.Disk (IsPartOf work.xid (doc_of name)) self.old name e) }
         ensures lawful { IfErr result (λ e. MeetsNoBadPage D.Disk self.old e) }
     {
-        let heap = self.hold_page(pass, name.page)?;
-        let new = match self.hold_new_page(pass) {
-            Ok(new) => new,
-            Err(error) => {
-                self.frames.release(pass, heap);
-                return Err(error);
-            }
-        };
-        match part_step(self.alloc, work.xid, name, &heap, &new, part) {
-            Ok(step) => {
-                self.log_two(pass, heap, new, step)?;
-                Ok(())
-            }
-            Err(error) => {
-                self.frames.release(pass, new);
-                self.frames.release(pass, heap);
-                Err(error)
-            }
-        }
+        let (heap, new) = self.hold_with_new(pass, name.page)?;
+        let made = part_step(self.alloc, work.xid, name, &heap, &new, part);
+        self.log_two(pass, heap, new, made)
     }
 
     /// Places a document with a vector of these bytes, its head and then the parts of a long one from

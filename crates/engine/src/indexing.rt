@@ -17,12 +17,12 @@ ghost use Rattle.ts_base.specs.Keys.{keys_of};
 ghost use Rattle.engine.specs.Inner.Indexing.{IsRowPageStep, IsRowStep, IsLinkStep, IsListEnd, end_then};
 ghost use Rattle.engine.specs.declared.error.DbError.TheVariants.{OutOfMemory, BadPage};
 
-use crate::changes::{item_of, leave_fields};
+use crate::changes::{item_of, leave_fields, with_room};
 use crate::db::Db;
 use crate::error::DbError;
 use crate::list_end::ListEnd;
 use crate::transaction::Transaction;
-use buffer_frames::{Held, Pass, Sheet, Step};
+use buffer_frames::{Drawn, Held, Pass, Sheet, Step};
 use disk_trait::Disk;
 use doc_heap::head;
 use page_types::{Body, HeadFields, Kind, Name, Page};
@@ -47,6 +47,7 @@ fn rows_step(
         × IsPage heap.now.content × (head_on heap.now.content name.slot ≡ None))) }
 {
     let (number, page, new_number) = (heap.number(), heap.page(), new.number());
+    // Rows that are not left are dropped by name: one call to prove, and no walk through all of a page's fields.
     let Some(found) = head(page, name.slot) else {
         drop(rows);
         return Err(DbError::BadPage { page: name.page });
@@ -60,12 +61,9 @@ fn rows_step(
         serial: name.serial,
     };
     let mut step = Step::new(alloc, kind, xid);
-    match leave_fields(&mut step, number, page, name.slot, fields) {
-        Ok(()) => {}
-        Err(_) => {
-            drop(rows);
-            return Err(DbError::OutOfMemory);
-        }
+    if let Err(error) = leave_fields(&mut step, number, page, name.slot, fields) {
+        drop(rows);
+        return Err(DbError::from(error));
     }
     rows.right = found.fields.private;
     rows.stamp = 0;
@@ -81,7 +79,7 @@ fn row_step(
     name: Name,
     last: &Held,
     keys: &[Vec<u8>],
-) -> Result<Option<Step>, AllocError>
+) -> Result<Option<Step>, DbError>
     requires place { (name.page < page_limit) × (name.slot < most_slots) }
     requires pending { IsPendingPage last.now.content }
     requires keys { AreKeys (map (λ key. key.items) keys.now) }
@@ -89,6 +87,7 @@ fn row_step(
         (λ s. IsRowStep xid name last.now (map (λ key. key.items) keys.now) s)) }
     ensures full { IfOk result (λ o. IfNone o (HasNoRoom last.now.content
         (item_at name.page name.slot) (map (λ key. key.items) keys.now))) }
+    ensures memory { IfErr result (λ e. e ≡ OutOfMemory) }
 {
     let item = item_of(name);
     let Some(page) = add_row(alloc, last.page(), item, keys)? else {
@@ -177,18 +176,21 @@ fn link_step(
 impl<D: Disk> Db<D> {
     ghost use Rattle.page_types.specs.declared.record.Record.{Record};
     ghost use Rattle.core_state.specs.History.{Commit};
+    ghost use Rattle.buffer_frames.specs.Drawing.{drawn_by};
     ghost use Rattle.buffer_frames.specs.Journals.{next_record};
     ghost use Rattle.buffer_frames.specs.Passes.{IsPassOf};
+    ghost use Rattle.engine.specs.Db.{state_then};
     ghost use Rattle.engine.specs.Finding.{document, Name as NameValue};
     ghost use Rattle.engine.specs.Work.{IsRowOf, IsRowPageOf, IsLinkOf, AreIndexing, AreStored};
     ghost use Rattle.engine.specs.Going.{Goes, FaultIsTold};
     ghost use Rattle.engine.specs.Places.{HasNoRoomOnList};
     ghost use Rattle.engine.specs.Answers.{MeetsNoBadPage};
     ghost use Rattle.engine.specs.Causes.{AreDue};
-    ghost use Rattle.engine.specs.Inner.Changing.{doc_of, MayLogStep, LogsStep, CannotLog};
+    ghost use Rattle.engine.specs.Inner.Changing.{doc_of, MayLogStep, LogsStep, CannotLog, MayLogMade, LogsMade};
+    ghost use Rattle.engine.specs.Inner.Changing.{CannotLogMade, CannotPutNew};
     ghost use Rattle.engine.specs.Inner.Parts.{IsRunning, HasChanged, HasRows, CarriesOwn, KeepsWork, with_inserted};
     ghost use Rattle.engine.specs.Inner.Indexing.{IsNextPage, last_then, end_sheets};
-    ghost use Rattle.engine.specs.Inner.Indexing.{CannotAddRow, CannotPutRowPage, CannotPutRows, CannotLink};
+    ghost use Rattle.engine.specs.Inner.Indexing.{CannotAddRow, CannotPutRows, CannotLink};
     ghost use Rattle.engine.specs.Inner.Indexing.{IsIndexedBy, CannotIndex, CannotStore};
 
     /// Adds a row of a document's keys to the last page of the pending list; false where there is none,
@@ -232,22 +234,14 @@ impl<D: Disk> Db<D> {
             self.give_back(pass, meta);
             return Ok(false);
         };
-        match row_step(self.alloc, work.xid, name, &last, keys) {
-            Ok(Some(step)) => {
-                self.log_two(pass, meta, last, step)?;
-                Ok(true)
-            }
-            Ok(None) => {
-                self.give_back(pass, last);
-                self.give_back(pass, meta);
-                Ok(false)
-            }
-            Err(_) => {
-                self.give_back(pass, last);
-                self.give_back(pass, meta);
-                Err(DbError::OutOfMemory)
-            }
-        }
+        let made = row_step(self.alloc, work.xid, name, &last, keys);
+        let Some(made) = made.transpose() else {
+            self.give_back(pass, last);
+            self.give_back(pass, meta);
+            return Ok(false);
+        };
+        self.log_two(pass, meta, last, made)?;
+        Ok(true)
     }
 
     /// Puts a page of a document's rows on a new page, in front of those that are there: its number.
@@ -279,36 +273,22 @@ impl<D: Disk> Db<D> {
 
         // The refusals: it isn't put.
         ensures refused { OnErr result (Goes D.Disk self.old self.new []) }
-        ensures cause { IfErr result (λ e. CannotPutRowPage D.Disk self.old work.xid name e) }
+        ensures cause { IfErr result
+            (λ e. CannotPutNew D.Disk (IsRowPageOf work.xid (doc_of name)) self.old name e) }
         ensures lawful { IfErr result (λ e. MeetsNoBadPage D.Disk self.old e) }
     {
-        let heap = match self.hold_page(pass, name.page) {
-            Ok(heap) => heap,
+        let (heap, new) = match self.hold_with_new(pass, name.page) {
+            Ok(held) => held,
             Err(error) => {
+                // By name, as where the step isn't made.
                 drop(rows);
-                return Err(error);
-            }
-        };
-        let new = match self.hold_new_page(pass) {
-            Ok(new) => new,
-            Err(error) => {
-                drop(rows);
-                self.give_back(pass, heap);
                 return Err(error);
             }
         };
         let number = new.number();
-        match rows_step(self.alloc, work.xid, name, &heap, &new, rows) {
-            Ok(step) => {
-                self.log_two(pass, heap, new, step)?;
-                Ok(number)
-            }
-            Err(error) => {
-                self.give_back(pass, new);
-                self.give_back(pass, heap);
-                Err(error)
-            }
-        }
+        let made = rows_step(self.alloc, work.xid, name, &heap, &new, rows);
+        self.log_two(pass, heap, new, made)?;
+        Ok(number)
     }
 
     /// Puts pages of a document's rows, from the last to the first: the number of the last.
@@ -357,13 +337,19 @@ impl<D: Disk> Db<D> {
     }
 
     /// Logs a step on pages that are held; they are given back.
-    fn log_pages(&mut self, pass: &mut Pass, pages: Vec<Held>, step: Step) -> Result<(), DbError>
+    pub(crate) fn log_pages(
+        &mut self,
+        pass: &mut Pass,
+        pages: Vec<Held>,
+        step: Step,
+    ) -> Result<Drawn, DbError>
         requires { MayLogStep D.Disk self.old pass.old pages.items step }
         ensures pass { IsPassOf self.new.frames pass.new }
         ensures none_held { pass.new.held ≡ 0 }
         ensures keeps { KeepsWork pass.old pass.new }
         ensures logged { OnOk result
             (LogsStep D.Disk self.old pass.old pages.items step self.new pass.new) }
+        ensures drawn { IfOk result (λ d. d ≡ drawn_by (state_then self.old) step.kind) }
         ensures fault { FaultIsTold D.Disk self.old self.new result }
 
         // The refusals: the record isn't there.
@@ -372,76 +358,75 @@ impl<D: Disk> Db<D> {
         ensures cause { IfErr result
             (λ e. CannotLog self.old (next_record self.old.frames.journal step) e) }
     {
-        self.frames.log_step(pass, pages, step)?;
-        Ok(())
+        Ok(self.frames.log_step(pass, pages, step)?)
     }
 
-    /// Logs a step on three pages that are held; they are given back.
+    /// Logs the step that was made, if any was, on three pages that are held; they are given back.
     fn log_three(
         &mut self,
         pass: &mut Pass,
         heap: Held,
         meta: Held,
         last: Held,
-        step: Step,
+        made: Result<Step, DbError>,
     ) -> Result<(), DbError>
-        requires { MayLogStep D.Disk self.old pass.old (last ∷ meta ∷ heap ∷ []) step }
+        requires { MayLogMade D.Disk self.old pass.old (last ∷ meta ∷ heap ∷ []) made }
         ensures pass { IsPassOf self.new.frames pass.new }
         ensures none_held { pass.new.held ≡ 0 }
         ensures keeps { KeepsWork pass.old pass.new }
-        ensures logged { OnOk result (LogsStep D.Disk self.old pass.old
-            (last ∷ meta ∷ heap ∷ []) step self.new pass.new) }
+        ensures logged { OnOk result (LogsMade D.Disk self.old pass.old
+            (last ∷ meta ∷ heap ∷ []) made self.new pass.new) }
         ensures fault { FaultIsTold D.Disk self.old self.new result }
 
         // The refusals: the record isn't there.
         ensures refused { OnErr result (Goes D.Disk self.old self.new []) }
         ensures carries { OnErr result (CarriesOwn D.Disk self.old pass.old self.new pass.new) }
-        ensures cause { IfErr result
-            (λ e. CannotLog self.old (next_record self.old.frames.journal step) e) }
+        ensures cause { IfErr result (λ e. CannotLogMade self.old made e) }
     {
-        let mut pages = Vec::new(self.alloc);
-        if pages.reserve(3).is_err() {
-            self.give_back(pass, last);
-            self.give_back(pass, meta);
-            self.give_back(pass, heap);
-            return Err(DbError::OutOfMemory);
+        match with_room(self.alloc, made, 3) {
+            Ok((step, mut pages)) => {
+                pages.push_reserved(last);
+                pages.push_reserved(meta);
+                pages.push_reserved(heap);
+                self.log_pages(pass, pages, step)?;
+                Ok(())
+            }
+            Err(error) => {
+                self.give_back(pass, last);
+                self.give_back(pass, meta);
+                self.give_back(pass, heap);
+                Err(error)
+            }
         }
-        pages.push_reserved(last);
-        pages.push_reserved(meta);
-        pages.push_reserved(heap);
-        self.log_pages(pass, pages, step)
     }
 
-    /// Logs a step on a heap page and the end of the pending list, which are held; they are given back.
+    /// Logs the step that was made, if any was, on a heap page and the end of the pending list, which are held;
+    /// they are given back.
     fn log_link(
         &mut self,
         pass: &mut Pass,
         heap: Held,
         end: ListEnd,
-        step: Step,
+        made: Result<Step, DbError>,
     ) -> Result<(), DbError>
-        requires { MayLogStep D.Disk self.old pass.old
-            (end_sheets end.meta end.last ++ heap ∷ []) step }
+        requires { MayLogMade D.Disk self.old pass.old
+            (end_sheets end.meta end.last ++ heap ∷ []) made }
         ensures pass { IsPassOf self.new.frames pass.new }
         ensures none_held { pass.new.held ≡ 0 }
         ensures keeps { KeepsWork pass.old pass.new }
-        ensures logged { OnOk result (LogsStep D.Disk self.old pass.old
-            (end_sheets end.meta end.last ++ heap ∷ []) step self.new pass.new) }
+        ensures logged { OnOk result (LogsMade D.Disk self.old pass.old
+            (end_sheets end.meta end.last ++ heap ∷ []) made self.new pass.new) }
         ensures fault { FaultIsTold D.Disk self.old self.new result }
 
         // The refusals: the record isn't there.
         ensures refused { OnErr result (Goes D.Disk self.old self.new []) }
         ensures carries { OnErr result (CarriesOwn D.Disk self.old pass.old self.new pass.new) }
-        ensures cause { IfErr result
-            (λ e. CannotLog self.old (next_record self.old.frames.journal step) e) }
+        ensures cause { IfErr result (λ e. CannotLogMade self.old made e) }
     {
         let ListEnd { meta, last, .. } = end;
         match last {
-            Some(last) => self.log_three(pass, heap, meta, last, step),
-            None => {
-                self.log_two(pass, heap, meta, step)?;
-                Ok(())
-            }
+            Some(last) => self.log_three(pass, heap, meta, last, made),
+            None => self.log_two(pass, heap, meta, made),
         }
     }
 
@@ -485,14 +470,8 @@ impl<D: Disk> Db<D> {
                 return Err(error);
             }
         };
-        match link_step(self.alloc, work.xid, name, &heap, &end, last, pages) {
-            Ok(step) => self.log_link(pass, heap, end, step),
-            Err(error) => {
-                self.release_list(pass, end);
-                self.give_back(pass, heap);
-                Err(error)
-            }
-        }
+        let made = link_step(self.alloc, work.xid, name, &heap, &end, last, pages);
+        self.log_link(pass, heap, end, made)
     }
 
     /// Brings the keys of a document to the pending list: as a row on its last page where that has

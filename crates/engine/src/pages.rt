@@ -94,8 +94,8 @@ impl<D: Disk> Db<D> {
     ghost use Rattle.engine.specs.Going.{Goes, FaultIsTold};
     ghost use Rattle.engine.specs.Inner.Parts.{CarriesOwn, KeepsWork, CannotHold};
     ghost use Rattle.engine.specs.Inner.Choosing.{IsChosen, WorksOn, HoldsNoMore, GivesBack, HoldsNew};
-    ghost use Rattle.engine.specs.Inner.Choosing.{HoldsPlaced};
-    ghost use Rattle.engine.specs.Inner.Choosing.{CannotTake, CannotChoose};
+    ghost use Rattle.engine.specs.Inner.Choosing.{HoldsPlaced, HoldsWithNew};
+    ghost use Rattle.engine.specs.Inner.Choosing.{CannotTake, CannotHoldWithNew, CannotChoose};
 
     /// Holds a page. A number past the last that a page may have is no page's.
     pub(crate) fn hold_page(&mut self, pass: &mut Pass, page: u32) -> Result<Held, DbError>
@@ -241,6 +241,35 @@ impl<D: Disk> Db<D> {
             }
         }
         Err(DbError::BadPage { page: last })
+    }
+
+    /// A page and a new page, which are held.
+    pub(crate) fn hold_with_new(
+        &mut self,
+        pass: &mut Pass,
+        page: u32,
+    ) -> Result<(Held, Held), DbError>
+        requires pass { IsPassOf self.old.frames pass.old }
+        requires none { pass.old.held ≡ 0 }
+        ensures pass { IsPassOf self.new.frames pass.new }
+        ensures both { IfOk result (λ h. HoldsWithNew D.Disk self.old self.new pass.new page h.0 h.1) }
+        ensures carries { CarriesOwn D.Disk self.old pass.old self.new pass.new }
+        ensures goes { Goes D.Disk self.old self.new [] }
+        ensures keeps { KeepsWork pass.old pass.new }
+        ensures fault { FaultIsTold D.Disk self.old self.new result }
+
+        // The refusals: no page is held.
+        ensures still { OnErr result (pass.new.held ≡ 0) }
+        ensures cause { IfErr result (λ e. CannotHoldWithNew D.Disk self.old page e) }
+    {
+        let old = self.hold_page(pass, page)?;
+        match self.hold_new_page(pass) {
+            Ok(new) => Ok((old, new)),
+            Err(error) => {
+                self.give_back(pass, old);
+                Err(error)
+            }
+        }
     }
 
     /// A new page with the head, which is held.

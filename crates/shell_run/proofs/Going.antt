@@ -186,8 +186,8 @@ module _ {D : Type 0} (device : Disk D) where
         (device.write_fault_count first) (device.fault_count (disk_of new)) (device.write_fault_count (disk_of new))
     counted_then = by m.fault
       where
-        by : IsFaultOf device old new reply → Counted (fault_of new) (exchanges ++ exchange ∷ []) (device.fault_count first)
-            (device.write_fault_count first) (device.fault_count (disk_of new))
+        by : IsFaultOf device old new reply → Counted (fault_of new) (exchanges ++ exchange ∷ [])
+            (device.fault_count first) (device.write_fault_count first) (device.fault_count (disk_of new))
             (device.write_fault_count (disk_of new))
         by (inl f) =
             let up : (device.write_fault_count (disk_of old) < 2 ^ 64 - 1)

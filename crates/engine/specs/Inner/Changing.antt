@@ -1,5 +1,6 @@
 -- How documents are changed: the pages and the steps that are made, and what logs them.
 use Rattle.std.specs.Prelude.{◌≡◌, ◌≢◌, ◌⊎◌, ℕ, ◌≤◌, ◌<◌, List, [], ◌∷◌, ◌++◌, length, Option, Some, ⊤}
+use Rattle.std.specs.Prelude.{Result, Ok, Err}
 use Rattle.disk_trait.specs.declared.device.Disk.{Ghosts as Disk}
 use Rattle.page_types.specs.Numbers.{page_limit, most_slots, most_short, most_body}
 use Rattle.page_types.specs.Pages.{IsPage, IsHead}
@@ -24,7 +25,7 @@ use Rattle.buffer_frames.specs.Frames.{Stands, Behind}
 use Rattle.buffer_frames.specs.Journals.{next_record}
 use Rattle.buffer_frames.specs.Passes.{IsPassOf, IsHolding, Seen, IsLogged, view_of}
 use Rattle.buffer_frames.specs.declared.pass.Pass.{Pass}
-use Rattle.engine.specs.Work.{IsPlaceOf, IsPartOf}
+use Rattle.engine.specs.Work.{IsPlaceOf}
 use Rattle.engine.specs.Places.{head_for, NoHeapPageHasRoom}
 use Rattle.engine.specs.Going.{LogsOne}
 use Rattle.engine.specs.Causes.{IsDown, IsPastOf, IsStoreFull, HasNoRoomFor, IsHeap, IsNone, IsNew, IsNewSought}
@@ -166,9 +167,23 @@ module _ {D : Type 0} where
   CannotLog s r OutOfMemory = ⊤
   CannotLog s r e = ⊥
 
+  -- why the step that marks the name's head on the page isn't made
+  abbrev pub CannotMakeMark : DbValue D → StateValue → ℕ → ℕ → Name → Page → DbError → Type 0
+  CannotMakeMark was s n x name page e =
+      (e ≡ OutOfMemory) ⊎ (((f : ℕ) × (e ≡ Down f) × IsDown was f) ⊎ MayNotBeMarked s n x name page e)
+
+  -- why a step isn't logged that was to be made: it wasn't made, there is no memory, or its record isn't logged
+  abbrev pub CannotLogMade : DbValue D → Result Step DbError → DbError → Type 0
+  CannotLogMade s made e = (made ≡ Err e) ⊎ ((e ≡ OutOfMemory)
+      ⊎ ((step : Step) × (made ≡ Ok step) × CannotLog s (next_record s.frames.journal step) e))
+
   -- a new page that is sought is none
   abbrev pub IsNoNewPage : DbValue D → ℕ → Type 0
   IsNoNewPage s p = (since : ℕ) × IsNewSought s since p × IsNone s (IsNew s since) p
+
+  -- the page of the document's head is none, or lacks it; or a new page that is sought is none
+  abbrev pub IsBadPut : DbValue D → Name → ℕ → Type 0
+  IsBadPut s name p = ((p ≡ name.page) × IsNone s (HasHeadIn s name.slot) p) ⊎ IsNoNewPage s p
 
 module _ {D : Type 0} (device : Disk D) where
   -- the pass holds these pages, and may log the step on documents
@@ -189,6 +204,21 @@ module _ {D : Type 0} (device : Disk D) where
     pub rises : pass.seen ≤ pass'.seen
     pub all : pass'.seen ≡ (state_of new).records
 
+  -- the pass holds these pages, and may log the step that was made, if any was
+  pub record MayLogMade (s : DbValue D) (pass : Pass) (held : List Sheet) (made : Result Step DbError)
+      : Type 0 where
+    pub is_pass : IsPassOf s.frames pass
+    pub holding : IsHolding device s.frames pass held
+    pub calm : made ≡ Err DiskFault → ⊥
+    pub may : (step : Step) → made ≡ Ok step → MayLogStep s pass held step
+
+  -- a step was made, and it logged it
+  pub record LogsMade (old : DbValue D) (pass : Pass) (held : List Sheet) (made : Result Step DbError)
+      (new : DbValue D) (pass' : Pass) : Type 0 where
+    pub step : Step
+    pub made_is : made ≡ Ok step
+    pub logs : LogsStep old pass held step new pass'
+
   -- why the head of a document isn't placed, which has a vector of these bytes
   abbrev pub CannotPlace : DbValue D → ℕ → List ℕ → DbError → Type 0
   CannotPlace old x bytes (Down fault) = IsDown old fault
@@ -203,15 +233,13 @@ module _ {D : Type 0} (device : Disk D) where
   CannotPlace old x bytes OutOfMemory = ⊤
   CannotPlace old x bytes e = ⊥
 
-  -- why a part of the vector of a document isn't put
-  abbrev pub CannotPutPart : DbValue D → ℕ → Name → DbError → Type 0
-  CannotPutPart old x name (Down fault) = IsDown old fault
-  CannotPutPart old x name StoreFull = Later device old (λ (s : DbValue D). IsStoreFull s)
-  CannotPutPart old x name LogFull =
-      Later device old (λ (s : DbValue D). (r : Record) × IsPartOf x (doc_of name) r × HasNoRoomFor s r)
-  CannotPutPart old x name (BadPage p) =
-      Later device old (λ (s : DbValue D).
-      ((p ≡ name.page) × IsNone s (HasHeadIn s name.slot) p) ⊎ IsNoNewPage s p)
-  CannotPutPart old x name DiskFault = ⊤
-  CannotPutPart old x name OutOfMemory = ⊤
-  CannotPutPart old x name e = ⊥
+  -- why a page more of a document isn't put, whose record would be such a one
+  abbrev pub CannotPutNew : (Record → Type 0) → DbValue D → Name → DbError → Type 0
+  CannotPutNew IsOne old name (Down fault) = IsDown old fault
+  CannotPutNew IsOne old name StoreFull = Later device old (λ (s : DbValue D). IsStoreFull s)
+  CannotPutNew IsOne old name LogFull =
+      Later device old (λ (s : DbValue D). (r : Record) × IsOne r × HasNoRoomFor s r)
+  CannotPutNew IsOne old name (BadPage p) = Later device old (λ (s : DbValue D). IsBadPut s name p)
+  CannotPutNew IsOne old name DiskFault = ⊤
+  CannotPutNew IsOne old name OutOfMemory = ⊤
+  CannotPutNew IsOne old name e = ⊥

@@ -16,8 +16,8 @@ use Rattle.buffer_frames.specs.Passes.{IsPassOf, IsHolding, PassRises, Seen}
 use Rattle.buffer_frames.specs.declared.pass.Pass.{Pass}
 use Rattle.engine.specs.Going.{Goes, MetNoFault}
 use Rattle.engine.specs.Places.{Lies, NoHeapPageHasRoom}
-use Rattle.engine.specs.Causes.{IsDown, IsHeap, IsNone, IsNew, IsNewSought, IsStoreFull}
-use Rattle.engine.specs.Inner.Parts.{Later, CarriesOwn, KeepsWork}
+use Rattle.engine.specs.Causes.{IsDown, IsHeap, IsNone, IsNoPageAt, IsNew, IsNewSought, IsStoreFull}
+use Rattle.engine.specs.Inner.Parts.{Later, CarriesOwn, KeepsWork, CannotHold}
 use Rattle.engine.specs.Db.{DbValue, fault_of, state_of, IsUp}
 use Rattle.engine.specs.declared.pages.Placed.{Placed}
 use Rattle.engine.specs.declared.error.DbError.{DbError}
@@ -98,6 +98,14 @@ module _ {D : Type 0} (device : Disk D) where
     pub is_page : IsPage p.page
     pub holding : IsHolding device s.frames pass (p.held ∷ [])
 
+  -- a page of this number and a new one are held, and no other
+  pub record HoldsWithNew (was now : DbValue D) (pass : Pass) (page : ℕ) (old new : Sheet) : Type 0 where
+    pub number : old.page ≡ page
+    pub lies : Lies was page old.content
+    pub holding : IsHolding device now.frames pass (new ∷ old ∷ [])
+    pub is_new : Seen device now.frames pass
+        (λ (S : Log) (P : Pages). IsNewSheet P pass.since new.page new.content)
+
   -- ── refusals ──
 
   -- why no new page is held: there is none, or one that the state calls new is none
@@ -109,6 +117,12 @@ module _ {D : Type 0} (device : Disk D) where
   CannotTake was now DiskFault = ⊤
   CannotTake was now OutOfMemory = ⊤
   CannotTake was now e = ⊥
+
+  -- why a page and a new one aren't held: the first isn't, or then no new one is
+  pub data CannotHoldWithNew (was : DbValue D) (page : ℕ) (e : DbError) : Type 0 where
+    old : CannotHold device was page IsNoPageAt e → CannotHoldWithNew was page e
+    new : (s now : DbValue D) → Goes device was s [] → fault_of s ≡ fault_of was → Goes device s now []
+        → CannotTake s now e → CannotHoldWithNew was page e
 
   -- why no page is chosen for a head
   abbrev pub CannotChoose : DbValue D → Head → DbError → Type 0

@@ -29,7 +29,7 @@ use Rattle.engine.specs.Places.{Lies, HasNoRoomOnList}
 use Rattle.engine.specs.Causes.{IsDown, IsStoreFull, HasNoRoomFor, IsNone, IsBadPage, IsRows}
 use Rattle.engine.specs.Causes.{IsBadList, HasHeadIn, IsDue}
 use Rattle.engine.specs.Db.{DbValue}
-use Rattle.engine.specs.Inner.Changing.{IsNoNewPage, doc_of}
+use Rattle.engine.specs.Inner.Changing.{IsBadPut, doc_of}
 use Rattle.engine.specs.Inner.Parts.{Later, NeedsPageFor}
 use Rattle.engine.specs.declared.list_end.ListEnd.{ListEnd}
 use Rattle.engine.specs.declared.error.DbError.{DbError}
@@ -169,21 +169,6 @@ module _ {D : Type 0} (device : Disk D) where
   CannotAddRow old x d OutOfMemory = ⊤
   CannotAddRow old x d e = ⊥
 
-  -- the page of the document's head is none, or lacks it; or a new page that is sought is none
-  abbrev pub IsBadRowPage : DbValue D → Name → ℕ → Type 0
-  IsBadRowPage s name p = ((p ≡ name.page) × IsNone s (HasHeadIn s name.slot) p) ⊎ IsNoNewPage s p
-
-  -- why a page of a document's rows isn't put
-  abbrev pub CannotPutRowPage : DbValue D → ℕ → Name → DbError → Type 0
-  CannotPutRowPage old x name (Down fault) = IsDown old fault
-  CannotPutRowPage old x name StoreFull = Later device old (λ (s : DbValue D). IsStoreFull s)
-  CannotPutRowPage old x name LogFull =
-      Later device old (λ (s : DbValue D). (r : Record) × IsRowPageOf x (doc_of name) r × HasNoRoomFor s r)
-  CannotPutRowPage old x name (BadPage p) = Later device old (λ (s : DbValue D). IsBadRowPage s name p)
-  CannotPutRowPage old x name DiskFault = ⊤
-  CannotPutRowPage old x name OutOfMemory = ⊤
-  CannotPutRowPage old x name e = ⊥
-
   -- of so many pages of a document's rows some were put, and one is to come
   pub record PutsRows (old : DbValue D) (x : ℕ) (d : Doc) (pages : ℕ) (Why : DbValue D → Type 0) : Type 0 where
     pub store : DbValue D
@@ -201,7 +186,7 @@ module _ {D : Type 0} (device : Disk D) where
       PutsRows old x (doc_of name) pages
       (λ (s : DbValue D). (r : Record) × IsRowPageOf x (doc_of name) r × HasNoRoomFor s r)
   CannotPutRows old x name pages (BadPage p) =
-      PutsRows old x (doc_of name) pages (λ (s : DbValue D). IsBadRowPage s name p)
+      PutsRows old x (doc_of name) pages (λ (s : DbValue D). IsBadPut s name p)
   CannotPutRows old x name pages DiskFault = ⊤
   CannotPutRows old x name pages OutOfMemory = ⊤
   CannotPutRows old x name pages e = ⊥
@@ -257,7 +242,7 @@ module _ {D : Type 0} (device : Disk D) where
   CannotIndex old x name keys LogFull =
       Indexes old x (doc_of name) keys (λ (s : DbValue D) (r : Record). IsDueFrom old keys r.kind × HasNoRoomFor s r)
   CannotIndex old x name keys (BadPage p) =
-      Indexes old x (doc_of name) keys (λ (s : DbValue D) (r : Record). IsBadRowPage s name p ⊎ IsBadList s p)
+      Indexes old x (doc_of name) keys (λ (s : DbValue D) (r : Record). IsBadPut s name p ⊎ IsBadList s p)
   CannotIndex old x name keys DiskFault = ⊤
   CannotIndex old x name keys OutOfMemory = ⊤
   CannotIndex old x name keys e = ⊥

@@ -12,8 +12,8 @@ item_of-requires c = (
       (subst IsPage c.page.ensures.value c.page.ensures.is_page) c.requires.there,
 )
 
-pub returns : goal.returns
-returns c =
+pub returns-clause-step : goal.returns-clause-step
+returns-clause-step c =
     mark_step_is c.args.xid c.args.name c.args.held.now.content c.in_ok-marked.marked c.mark.new.page c.leave.new.self
     (omega (arith, c.requires.page, c.number-number.ensures.value, c.number-number.ensures.bound))
     (c.in_ok-marked.ensures.cases ∙ c.page.ensures.value)

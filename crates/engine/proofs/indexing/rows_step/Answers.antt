@@ -24,7 +24,7 @@ returns-clause-step c =
     let p = c.page-page.result.now in
     let n = c.number-new_number.result in
     let f = c.in-Some.found.fields in
-    let left = c.in-Ok.ensures in
+    let left = c.in_default-leave_fields.ensures in
     row_page_step_is c.args.xid c.args.name c.args.heap.now.content p c.args.rows c.args.new.now.page n
     left.new f.private c.leave.new.self
     (omega (arith, c.requires.page, c.number-number.ensures.value, c.number-number.ensures.bound))

@@ -23,6 +23,7 @@ use Rattle.engine.proofs.LinkAnswers.{linked_all}
 use Rattle.engine.proofs.Paths.{goes_on, goes_still, time_of, none_in_turn, told_in_turn}
 use Rattle.engine.proofs.ReadSteps.{refused_told}
 use Rattle.engine.proofs.Works.{row_pages_plain}
+use Rattle.engine.proofs.Carrying.{keeps_on}
 use Rattle.engine.proofs.db.Db.index_document.Goals as goal
 
 -- ── a row is added, or is refused ──
@@ -261,3 +262,14 @@ returns-clause-lawful g c =
     (no_bad_before g.D.Disk c.args.self.now c.put_rows.new.self (goes_on g.D.Disk before done.3)
     (row_pages_plain c.args.work.xid (doc_of c.args.name) done.0 done.1)
     (none_in_turn g.D.Disk c.in_ok-added.ensures.fault c.in_ok-last.ensures.fault)) c.link_rows.ensures.lawful
+
+pub returns-in_err-last-clause-keeps : goal.returns-in_err-last-clause-keeps
+returns-in_err-last-clause-keeps g c =
+    keeps_on c.args.pass.now c.add_row_to_list.new.pass c.put_rows.new.pass c.add_row_to_list.ensures.keeps
+    c.put_rows.ensures.keeps
+
+pub returns-clause-keeps : goal.returns-clause-keeps
+returns-clause-keeps g c =
+    keeps_on c.args.pass.now c.put_rows.new.pass c.link_rows.new.pass
+    (keeps_on c.args.pass.now c.add_row_to_list.new.pass c.put_rows.new.pass c.add_row_to_list.ensures.keeps
+    c.put_rows.ensures.keeps) c.link_rows.ensures.keeps

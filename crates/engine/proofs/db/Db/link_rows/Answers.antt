@@ -7,17 +7,18 @@ use Rattle.buffer_frames.specs.Journals.{after_owed}
 use Rattle.engine.specs.Answers.{MeetsNoBadPage}
 use Rattle.engine.specs.Work.{IsLinkOf}
 use Rattle.engine.specs.Inner.Changing.{ChangesDocument, doc_of}
-use Rattle.engine.specs.Inner.Indexing.{CannotLink, end_sheets}
+use Rattle.engine.specs.Inner.Indexing.{CannotLink, IsLinkStep, end_sheets}
 use Rattle.engine.specs.declared.error.DbError.{DbError}
 use Rattle.engine.specs.declared.list_end.ListEnd.{ListEnd}
 use Rattle.engine.proofs.Carrying.{carries_on, holds_none, keeps_on}
 use Rattle.engine.proofs.AddedRows.{links_then}
-use Rattle.engine.proofs.LinkAnswers.{logged_running, logged_goes, logged_not, logged_lawful, links_logged, link_held}
-use Rattle.engine.proofs.LinkAnswers.{link_list, link_made, list_later, linked_all}
+use Rattle.engine.proofs.LinkAnswers.{of_given, logged_running, logged_goes, logged_not, not_linked, link_held}
+use Rattle.engine.proofs.LinkAnswers.{link_list, list_later, linked_all}
 use Rattle.engine.proofs.Linking.{link_may_log, link_record}
-use Rattle.engine.proofs.ListEnds.{runs_back, told_given, all_back, all_back_runs}
+use Rattle.engine.proofs.NewPuts.{lacks_calm, shows_rowed, lawful_held, lawful_not_put}
+use Rattle.engine.proofs.ListEnds.{runs_back, told_given}
 use Rattle.engine.proofs.Paths.{goes_still, time_of, none_in_turn, told_in_turn}
-use Rattle.engine.proofs.RowCauses.{rows_lawful_held, rows_lawful_made}
+use Rattle.engine.proofs.ReadSteps.{if_err}
 use Rattle.engine.proofs.Running.{running_still, told_again}
 use Rattle.engine.proofs.db.Db.link_rows.Goals as goal
 
@@ -44,8 +45,9 @@ returns-in_err-heap-clause-lawful g c =
     let run = c.requires.running in
     subst (λ (r : Result (Unit {0}) DbError). IfErr r (λ e. MeetsNoBadPage g.D.Disk c.args.self.now e)) (sym p.1)
     (subst (MeetsNoBadPage g.D.Disk c.args.self.now) (sym p.2)
-    (rows_lawful_held g.D.Disk c.args.self.now c.args.pass.now c.args.work.xid c.args.name n.0 n.1 c.args.last n.2
-    run.is_pass run.xid c.requires.place n.5 _ c.in_err-heap.ensures.cause))
+    (lawful_held g.D.Disk c.args.self.now c.args.name
+    (shows_rowed g.D.Disk c.args.self.now c.args.pass.now c.args.work.xid c.args.name run.is_pass run.xid
+    c.requires.place n.0 n.1 c.args.last n.2 n.5) _ c.in_err-heap.ensures.cause))
 
 -- ── the end of the list isn't held ──
 
@@ -124,157 +126,111 @@ log_link-requires g c =
     let x = c.args.work.xid in
     let h = c.hold_page.ensures in
     let l = c.hold_list.ensures.on in
-    let held = c.in_ok-heap.ensures.holding []
-    (holds_none g.D.Disk c.args.self.now c.args.pass.now run.is_pass run.held) in
+    let held = c.in-Ok.ensures.holding (c.in_ok-heap.heap ∷ []) (c.in_ok-heap.ensures.holding []
+    (holds_none g.D.Disk c.args.self.now c.args.pass.now run.is_pass run.held)) in
+    let made = c.link_step-made in
     let first : c.hold_page.new.pass.xid ≡ Some x = (h.keeps).xid ∙ run.xid in
     let serial : c.args.name.serial < 2 ^ 64 = omega arith in
-    link_may_log g.D.Disk c.hold_list.new.self c.hold_list.new.pass c.in_ok-heap.heap c.in-Ok.end x c.args.name
-    n.0 n.1 c.args.last c.args.pages n.2 c.in-Ok-link_step.step ((l.keeps).xid ∙ first)
-    (c.in-Ok.ensures.holding (c.in_ok-heap.heap ∷ []) held) c.in-Ok.ensures.is_end n.3 n.4
-    c.in_ok-heap.ensures.number c.in-Ok-link_step.ensures.step l.is_pass
-    ((l.carries).rows x _ n.0 n.1 c.args.last n.2 first ((h.carries).rows x _ n.0 n.1 c.args.last n.2 run.xid n.5))
-    serial
+    record {
+      is_pass = l.is_pass;
+      holding = held;
+      calm = lacks_calm c.args.name c.in_ok-heap.heap.content made.result made.ensures.bad;
+      may = λ step is. link_may_log g.D.Disk c.hold_list.new.self c.hold_list.new.pass c.in_ok-heap.heap c.in-Ok.end x
+          c.args.name n.0 n.1 c.args.last c.args.pages n.2 step ((l.keeps).xid ∙ first) held c.in-Ok.ensures.is_end
+          n.3 n.4 c.in_ok-heap.ensures.number
+          (of_given (λ (s : Step). IsLinkStep x c.args.name c.in_ok-heap.heap.content c.in-Ok.end c.args.last c.args.pages
+          s) made.result step is made.ensures.step) l.is_pass
+          ((l.carries).rows x _ n.0 n.1 c.args.last n.2 first
+          ((h.carries).rows x _ n.0 n.1 c.args.last n.2 run.xid n.5))
+          serial;
+    }
 
-pub returns-in-Ok-link_step-clause-running : goal.returns-in-Ok-link_step-clause-running
-returns-in-Ok-link_step-clause-running g c =
+pub returns-clause-running : goal.returns-clause-running
+returns-clause-running g c =
     let h = c.hold_page.ensures in
     let n = c.hold_list.ensures.on in
     let l = c.log_link.ensures in
+    let made = c.link_step-made in
     logged_running g.D.Disk c.args.self.now c.hold_list.new.self c.log_link.new.self c.args.pass.now
     c.hold_list.new.pass c.log_link.new.pass (end_sheets c.in-Ok.end.meta c.in-Ok.end.last ++ c.in_ok-heap.heap ∷ [])
-    c.in-Ok-link_step.step (goes_still g.D.Disk h.goes n.goes) c.args.work c.log_link.result c.requires.running
+    made.result (goes_still g.D.Disk h.goes n.goes) c.args.work c.log_link.result c.requires.running
     n.is_pass (carries_on g.D.Disk c.args.self.now c.hold_page.new.self c.hold_list.new.self c.args.pass.now
     c.hold_page.new.pass c.hold_list.new.pass (h.keeps).xid h.carries n.carries)
     (keeps_on c.args.pass.now c.hold_page.new.pass c.hold_list.new.pass h.keeps n.keeps) l.pass l.none_held l.keeps
-    (subst (λ (q : Step). ChangesDocument q.kind) (sym (c.in-Ok-link_step.ensures.step).step_is) tt) l.logged l.carries
+    (λ step is. subst (λ (s : Step). ChangesDocument s.kind)
+    (sym (of_given (λ (s : Step). IsLinkStep c.args.work.xid c.args.name c.in_ok-heap.heap.content c.in-Ok.end
+    c.args.last c.args.pages s) made.result step is made.ensures.step).step_is) tt) l.logged l.carries
 
-pub returns-in-Ok-link_step-clause-goes : goal.returns-in-Ok-link_step-clause-goes
-returns-in-Ok-link_step-clause-goes g c =
+pub returns-clause-goes : goal.returns-clause-goes
+returns-clause-goes g c =
     let m = c.hold_list.new.self in
+    let made = c.link_step-made in
     logged_goes g.D.Disk c.args.self.now m c.log_link.new.self c.args.pass.now c.hold_list.new.pass c.log_link.new.pass
-    (end_sheets c.in-Ok.end.meta c.in-Ok.end.last ++ c.in_ok-heap.heap ∷ []) c.in-Ok-link_step.step
+    (end_sheets c.in-Ok.end.meta c.in-Ok.end.last ++ c.in_ok-heap.heap ∷ []) made.result
     (goes_still g.D.Disk c.hold_page.ensures.goes c.hold_list.ensures.on.goes)
     (IsLinkOf c.args.work.xid (doc_of c.args.name)) c.log_link.result
-    (link_record (after_owed m.frames.journal.owes m.frames.journal.state) c.args.work.xid c.args.name
-    c.in_ok-heap.heap.content c.in-Ok.end c.args.last c.args.pages c.in-Ok-link_step.step
-    c.in-Ok-link_step.ensures.step) c.log_link.ensures.logged
+    (λ step is. link_record (after_owed m.frames.journal.owes m.frames.journal.state) c.args.work.xid c.args.name
+    c.in_ok-heap.heap.content c.in-Ok.end c.args.last c.args.pages step
+    (of_given (λ (s : Step). IsLinkStep c.args.work.xid c.args.name c.in_ok-heap.heap.content c.in-Ok.end
+    c.args.last c.args.pages s) made.result step is made.ensures.step)) c.log_link.ensures.logged
 
-pub returns-in-Ok-link_step-clause-indexed : goal.returns-in-Ok-link_step-clause-indexed
-returns-in-Ok-link_step-clause-indexed g c = λ v packed w many pack none had.
+pub returns-clause-indexed : goal.returns-clause-indexed
+returns-clause-indexed g c = λ v packed w many pack none had.
     let run = c.requires.running in
     let h = c.hold_page.ensures in
     let l = c.hold_list.ensures.on in
     let x = c.args.work.xid in
+    let made = c.link_step-made in
     let first : c.hold_page.new.pass.xid ≡ Some x = (h.keeps).xid ∙ run.xid in
     linked_all _ _ c.log_link.result
     (λ logged.
     links_then g.D.Disk c.hold_list.new.self c.log_link.new.self c.hold_list.new.pass c.log_link.new.pass
-    (end_sheets c.in-Ok.end.meta c.in-Ok.end.last ++ c.in_ok-heap.heap ∷ []) c.in-Ok-link_step.step logged l.is_pass
+    (end_sheets c.in-Ok.end.meta c.in-Ok.end.last ++ c.in_ok-heap.heap ∷ []) logged.step logged.logs l.is_pass
     c.log_link.ensures.pass x c.args.name v packed c.args.last w ((l.keeps).xid ∙ first) c.requires.place none
-    (inr (ap (λ (s : Step). s.kind) (c.in-Ok-link_step.ensures.step).step_is))
+    (inr (ap (λ (s : Step). s.kind) (of_given (λ (s : Step). IsLinkStep x c.args.name c.in_ok-heap.heap.content
+    c.in-Ok.end c.args.last c.args.pages s) made.result logged.step logged.made_is made.ensures.step).step_is))
     ((l.carries).rows x _ v packed c.args.last w.deleted first
     ((h.carries).rows x _ v packed c.args.last w.deleted run.xid had)))
     c.log_link.ensures.logged
 
-pub returns-in-Ok-link_step-clause-keeps : goal.returns-in-Ok-link_step-clause-keeps
-returns-in-Ok-link_step-clause-keeps g c =
+pub returns-clause-keeps : goal.returns-clause-keeps
+returns-clause-keeps g c =
     keeps_on c.args.pass.now c.hold_list.new.pass c.log_link.new.pass
     (keeps_on c.args.pass.now c.hold_page.new.pass c.hold_list.new.pass c.hold_page.ensures.keeps
     c.hold_list.ensures.on.keeps) c.log_link.ensures.keeps
 
-pub returns-in-Ok-link_step-clause-fault : goal.returns-in-Ok-link_step-clause-fault
-returns-in-Ok-link_step-clause-fault g c =
+pub returns-clause-fault : goal.returns-clause-fault
+returns-clause-fault g c =
     told_in_turn g.D.Disk c.args.self.now c.hold_list.new.self c.log_link.new.self c.log_link.result
     (time_of g.D.Disk (goes_still g.D.Disk c.hold_page.ensures.goes c.hold_list.ensures.on.goes))
     (none_in_turn g.D.Disk c.in_ok-heap.ensures.fault c.in-Ok.ensures.fault) c.log_link.ensures.fault
 
-pub returns-in-Ok-link_step-clause-refused : goal.returns-in-Ok-link_step-clause-refused
-returns-in-Ok-link_step-clause-refused g c =
+pub returns-clause-refused : goal.returns-clause-refused
+returns-clause-refused g c =
     logged_not g.D.Disk c.args.self.now c.hold_list.new.self c.log_link.new.self c.args.pass.now c.hold_list.new.pass
     c.log_link.new.pass (end_sheets c.in-Ok.end.meta c.in-Ok.end.last ++ c.in_ok-heap.heap ∷ [])
-    c.in-Ok-link_step.step (goes_still g.D.Disk c.hold_page.ensures.goes c.hold_list.ensures.on.goes)
+    c.link_step-made.result (goes_still g.D.Disk c.hold_page.ensures.goes c.hold_list.ensures.on.goes)
     c.log_link.result c.log_link.ensures.refused
 
-pub returns-in-Ok-link_step-clause-cause : goal.returns-in-Ok-link_step-clause-cause
-returns-in-Ok-link_step-clause-cause g c =
+pub returns-clause-cause : goal.returns-clause-cause
+returns-clause-cause g c =
     let m = c.hold_list.new.self in
-    links_logged g.D.Disk c.args.self.now m c.log_link.new.self c.args.pass.now c.hold_list.new.pass
-    c.log_link.new.pass (end_sheets c.in-Ok.end.meta c.in-Ok.end.last ++ c.in_ok-heap.heap ∷ [])
-    c.in-Ok-link_step.step (goes_still g.D.Disk c.hold_page.ensures.goes c.hold_list.ensures.on.goes)
-    c.args.work.xid c.args.name (none_in_turn g.D.Disk c.in_ok-heap.ensures.fault c.in-Ok.ensures.fault).down
-    c.log_link.result
-    (link_record (after_owed m.frames.journal.owes m.frames.journal.state) c.args.work.xid c.args.name
-    c.in_ok-heap.heap.content c.in-Ok.end c.args.last c.args.pages c.in-Ok-link_step.step
-    c.in-Ok-link_step.ensures.step) c.log_link.ensures.cause
+    let made = c.link_step-made in
+    if_err c.log_link.result
+    (not_linked g.D.Disk c.args.self.now m (goes_still g.D.Disk c.hold_page.ensures.goes c.hold_list.ensures.on.goes)
+    (none_in_turn g.D.Disk c.in_ok-heap.ensures.fault c.in-Ok.ensures.fault).down c.args.work.xid c.args.name
+    made.result c.in_ok-heap.heap.content c.in_ok-heap.ensures.lies made.ensures.bad
+    (λ step is. link_record (after_owed m.frames.journal.owes m.frames.journal.state) c.args.work.xid c.args.name
+    c.in_ok-heap.heap.content c.in-Ok.end c.args.last c.args.pages step
+    (of_given (λ (s : Step). IsLinkStep c.args.work.xid c.args.name c.in_ok-heap.heap.content c.in-Ok.end
+    c.args.last c.args.pages s) made.result step is made.ensures.step))) c.log_link.ensures.cause
 
-pub returns-in-Ok-link_step-clause-lawful : goal.returns-in-Ok-link_step-clause-lawful
-returns-in-Ok-link_step-clause-lawful g c =
-    logged_lawful g.D.Disk c.args.self.now c.hold_list.new.self c.log_link.new.self c.args.pass.now
-    c.hold_list.new.pass c.log_link.new.pass (end_sheets c.in-Ok.end.meta c.in-Ok.end.last ++ c.in_ok-heap.heap ∷ [])
-    c.in-Ok-link_step.step (goes_still g.D.Disk c.hold_page.ensures.goes c.hold_list.ensures.on.goes)
-    c.log_link.result c.log_link.ensures.cause
-
--- ── the step isn't made ──
-
-pub release_list-requires-clause-holding : goal.release_list-requires-clause-holding
-release_list-requires-clause-holding g c =
-    let run = c.requires.running in (
-      c.in_ok-heap.heap ∷ [],
-      c.in-Ok.ensures.holding (c.in_ok-heap.heap ∷ []) (c.in_ok-heap.ensures.holding []
-          (holds_none g.D.Disk c.args.self.now c.args.pass.now run.is_pass run.held)),
-    )
-
-pub give_back-requires-in-Err-link_step-clause-holding : goal.give_back-requires-in-Err-link_step-clause-holding
-give_back-requires-in-Err-link_step-clause-holding g c =
-    let run = c.requires.running in (
-      [],
-      c.release_list.ensures.holding (c.in_ok-heap.heap ∷ [])
-          (c.in-Ok.ensures.holding (c.in_ok-heap.heap ∷ []) (c.in_ok-heap.ensures.holding []
-          (holds_none g.D.Disk c.args.self.now c.args.pass.now run.is_pass run.held))),
-    )
-
-pub returns-in-Err-link_step-clause-running : goal.returns-in-Err-link_step-clause-running
-returns-in-Err-link_step-clause-running g c =
-    let m = c.hold_list.new.self in
-    let run = c.requires.running in
-    let held = c.in-Ok.ensures.holding (c.in_ok-heap.heap ∷ []) (c.in_ok-heap.ensures.holding []
-    (holds_none g.D.Disk c.args.self.now c.args.pass.now run.is_pass run.held)) in
-    let h = c.hold_page.ensures in
-    let n = c.hold_list.ensures.on in
-    all_back_runs g.D.Disk c.args.self.now m c.give_back-in-Err-link_step.new.self c.args.pass.now
-    c.hold_list.new.pass c.give_back-in-Err-link_step.new.pass c.args.work
-    (end_sheets c.in-Ok.end.meta c.in-Ok.end.last) c.in_ok-heap.heap
-    run
-    (carries_on g.D.Disk c.args.self.now c.hold_page.new.self m c.args.pass.now c.hold_page.new.pass
-    c.hold_list.new.pass (h.keeps).xid h.carries n.carries)
-    (keeps_on c.args.pass.now c.hold_page.new.pass c.hold_list.new.pass h.keeps n.keeps)
-    (all_back g.D.Disk m c.release_list.new.self c.give_back-in-Err-link_step.new.self
-    c.hold_list.new.pass c.release_list.new.pass c.give_back-in-Err-link_step.new.pass
-    (end_sheets c.in-Ok.end.meta c.in-Ok.end.last) (c.in_ok-heap.heap ∷ []) c.release_list.ensures
-    c.give_back-in-Err-link_step.ensures) held
-
-pub returns-in-Err-link_step-clause-keeps : goal.returns-in-Err-link_step-clause-keeps
-returns-in-Err-link_step-clause-keeps g c =
-    keeps_on c.args.pass.now c.release_list.new.pass c.give_back-in-Err-link_step.new.pass
-    (keeps_on c.args.pass.now c.hold_list.new.pass c.release_list.new.pass
-    (keeps_on c.args.pass.now c.hold_page.new.pass c.hold_list.new.pass c.hold_page.ensures.keeps
-    c.hold_list.ensures.on.keeps) c.release_list.ensures.keeps) c.give_back-in-Err-link_step.ensures.keeps
-
-pub returns-in-Err-link_step-clause-refused : goal.returns-in-Err-link_step-clause-refused
-returns-in-Err-link_step-clause-refused g c =
-    goes_still g.D.Disk
-    (goes_still g.D.Disk (goes_still g.D.Disk c.hold_page.ensures.goes c.hold_list.ensures.on.goes)
-    c.release_list.ensures.goes) c.give_back-in-Err-link_step.ensures.goes
-
-pub returns-in-Err-link_step-clause-cause : goal.returns-in-Err-link_step-clause-cause
-returns-in-Err-link_step-clause-cause g c =
-    link_made g.D.Disk c.args.self.now c.args.work.xid c.args.name c.in_ok-heap.heap.content c.in-Err-link_step.error
-    c.in_ok-heap.ensures.lies c.in-Err-link_step.ensures.bad
-
-pub returns-in-Err-link_step-clause-lawful : goal.returns-in-Err-link_step-clause-lawful
-returns-in-Err-link_step-clause-lawful g c =
+pub returns-clause-lawful : goal.returns-clause-lawful
+returns-clause-lawful g c =
     let n = c.requires.put in
     let run = c.requires.running in
-    rows_lawful_made g.D.Disk c.args.self.now c.args.pass.now c.args.work.xid c.args.name n.0 n.1 c.args.last n.2
-    run.is_pass run.xid c.requires.place n.5 c.in_ok-heap.heap.content c.in-Err-link_step.error
-    c.in_ok-heap.ensures.lies c.in-Err-link_step.ensures.bad
+    if_err c.log_link.result
+    (lawful_not_put g.D.Disk c.args.self.now c.args.name
+    (shows_rowed g.D.Disk c.args.self.now c.args.pass.now c.args.work.xid c.args.name run.is_pass run.xid
+    c.requires.place n.0 n.1 c.args.last n.2 n.5) c.hold_list.new.self c.link_step-made.result
+    c.in_ok-heap.heap.content c.in_ok-heap.ensures.lies c.link_step-made.ensures.bad) c.log_link.ensures.cause

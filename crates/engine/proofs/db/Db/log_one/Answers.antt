@@ -1,125 +1,57 @@
--- A step on one page is logged, or refused.
-use Rattle.std.proofs.Common.{refl, ◌≡◌, List, [], ◌∷◌, ◌++◌, sym, ap, subst, ◌∙◌}
-use Rattle.std.specs.Prelude.{Result, Err, IfErr, OnErr}
-use Rattle.std.proofs.lemmas.Result.{err_from_is_err_and}
-use Rattle.core_state.specs.Log.{Log, Pages}
-use Rattle.core_state.specs.Allowed.{Sheet, MayLog}
-use Rattle.buffer_frames.specs.Frames.{Behind}
-use Rattle.buffer_frames.specs.Journals.{next_record}
-use Rattle.buffer_frames.specs.Passes.{IsHolding, Seen, IsLogged, view_of}
+-- A step that was made is logged on one page, or the page is given back.
+use Rattle.std.proofs.Common.{◌≡◌, List, [], ◌∷◌, ◌++◌, sym, ap, subst, ◌∙◌}
+use Rattle.core_state.specs.Allowed.{Sheet, Step}
+use Rattle.buffer_frames.specs.Drawing.{drawn_by}
 use Rattle.buffer_frames.specs.declared.step.Drawn.{Drawn}
-use Rattle.engine.specs.Db.{DbValue}
-use Rattle.engine.specs.Going.{Goes, FaultIsTold}
-use Rattle.engine.specs.Inner.Changing.{LogsStep, CannotLog}
-use Rattle.engine.specs.Inner.Parts.{CarriesOwn}
-use Rattle.engine.specs.declared.error.DbError.{DbError}
-use Rattle.engine.proofs.Carrying.{carries}
-use Rattle.engine.proofs.Logging.{early_of, rests_of, log_cause}
-use Rattle.engine.proofs.Paths.{one_nothing, calm_step, write_step, logged_step, write_told}
+use Rattle.engine.specs.Db.{state_then}
+use Rattle.engine.specs.Inner.Changing.{MayLogStep, LogsStep}
+use Rattle.engine.proofs.Choosing.{at_ok}
+use Rattle.engine.proofs.LinkAnswers.{ok_one, linked_all, cannot_log, unmade, unmade_told}
+use Rattle.engine.proofs.ReadSteps.{if_err}
 use Rattle.engine.proofs.db.Db.log_one.Goals as goal
 
-pub returns-then-is_err-clause-none_held : goal.returns-then-is_err-clause-none_held
-returns-then-is_err-clause-none_held g c =
-    let hold = subst
-    (λ (s : DbValue g.row.D.Denot). IsHolding g.D.Disk s.frames c.args.pass.now (c.args.held ∷ [])) (sym c.self.view_is)
-    c.requires.holding in
-    sym (c.release.ensures.holding [] hold).all
-
-pub returns-then-is_err-clause-refused : goal.returns-then-is_err-clause-refused
-returns-then-is_err-clause-refused g c =
-    let a : DbValue g.row.D.Denot = record { frames = c.self.inside.frames; pending = c.self.inside.pending } in
-    let b : DbValue g.row.D.Denot = record { frames = c.release.new.self; pending = c.self.inside.pending } in
-    let e = c.release.ensures in
-    subst (λ (s : DbValue g.row.D.Denot). Goes g.D.Disk s b []) c.self.view_is
-    (one_nothing g.D.Disk (calm_step g.D.Disk a b refl e.added e.state e.runs_on e.begins e.calm e.pins))
-
-pub returns-then-is_err-clause-carries : goal.returns-then-is_err-clause-carries
-returns-then-is_err-clause-carries g c =
-    let a : DbValue g.row.D.Denot = record { frames = c.self.inside.frames; pending = c.self.inside.pending } in
-    let b : DbValue g.row.D.Denot = record { frames = c.release.new.self; pending = c.self.inside.pending } in
-    let e = c.release.ensures in
-    subst (λ (s : DbValue g.row.D.Denot). CarriesOwn g.D.Disk s c.args.pass.now b c.release.new.pass) c.self.view_is
-    (carries g.D.Disk a b c.args.pass.now c.release.new.pass e.added e.sees_on e.rises e.pass)
-
-pub log_step-requires-clause-may : goal.log_step-requires-clause-may
-log_step-requires-clause-may g c =
+pub log_pages-requires : goal.log_pages-requires
+log_pages-requires g c =
     let items : c.push_reserved.new.self.items ≡ c.args.held ∷ [] =
-    c.push_reserved.ensures.items
-    ∙ ap (λ (l : List Sheet). l ++ c.args.held ∷ []) (c.reserve.ensures.items ∙ c.new-pages.ensures.items) in
-    subst (λ (l : List Sheet). Behind g.D.Disk c.self.inside.frames
-    (λ (R : Log). MayLog (view_of c.self.inside.frames c.args.pass.now R l) c.args.step)) (sym items)
-    (subst (λ (s : DbValue g.row.D.Denot). Behind g.D.Disk s.frames
-    (λ (R : Log). MayLog (view_of s.frames c.args.pass.now R (c.args.held ∷ [])) c.args.step)) (sym c.self.view_is)
-    c.requires.may)
+    c.push_reserved.ensures.items ∙ ap (λ (l : List Sheet). l ++ c.args.held ∷ []) c.in-Ok.ensures.none in
+    subst (λ (l : List Sheet). MayLogStep g.D.Disk c.args.self.now c.args.pass.now l c.in-Ok.step) (sym items)
+    (c.requires.may c.in-Ok.step c.in-Ok.ensures.made)
 
-pub returns-in_err-log_step-clause-fault : goal.returns-in_err-log_step-clause-fault
-returns-in_err-log_step-clause-fault g c =
-    let a : DbValue g.row.D.Denot = record { frames = c.self.inside.frames; pending = c.self.inside.pending } in
-    let b : DbValue g.row.D.Denot = record { frames = c.log_step.new.self; pending = c.self.inside.pending } in
-    let e = c.log_step.ensures in
-    let p = err_from_is_err_and c.from_residual.result c.from_residual.ensures.1 in
-    subst (λ (s : DbValue g.row.D.Denot). FaultIsTold g.D.Disk s b c.from_residual.result) c.self.view_is
-    (subst (λ (r : Result Drawn DbError). FaultIsTold g.D.Disk a b r) (sym (p.1 ∙ ap Err p.2))
-    (write_told g.D.Disk Drawn a b c.log_step.result _ c.in_err-log_step.was e.is_down e.cause e.goes_down))
-
-pub returns-in_err-log_step-clause-refused : goal.returns-in_err-log_step-clause-refused
-returns-in_err-log_step-clause-refused g c =
-    let a : DbValue g.row.D.Denot = record { frames = c.self.inside.frames; pending = c.self.inside.pending } in
-    let b : DbValue g.row.D.Denot = record { frames = c.log_step.new.self; pending = c.self.inside.pending } in
-    let e = c.log_step.ensures in
-    let f = c.in_err-log_step.ensures in
-    let p = err_from_is_err_and c.from_residual.result c.from_residual.ensures.1 in
-    subst (λ (r : Result Drawn DbError). OnErr r (Goes g.D.Disk c.args.self.now b [])) (sym p.1)
-    (subst (λ (s : DbValue g.row.D.Denot). Goes g.D.Disk s b []) c.self.view_is
-    (one_nothing g.D.Disk
-    (write_step g.D.Disk a b refl c.log_step.result f.refused f.refused_state e.runs_on f.refused_begins e.cause
-    e.pins)))
-
-pub returns-in_err-log_step-clause-carries : goal.returns-in_err-log_step-clause-carries
-returns-in_err-log_step-clause-carries g c =
-    let a : DbValue g.row.D.Denot = record { frames = c.self.inside.frames; pending = c.self.inside.pending } in
-    let b : DbValue g.row.D.Denot = record { frames = c.log_step.new.self; pending = c.self.inside.pending } in
-    let e = c.log_step.ensures in
-    let f = c.in_err-log_step.ensures in
-    let p = err_from_is_err_and c.from_residual.result c.from_residual.ensures.1 in
-    subst (λ (r : Result Drawn DbError).
-    OnErr r (CarriesOwn g.D.Disk c.args.self.now c.args.pass.now b c.log_step.new.pass)) (sym p.1)
-    (subst (λ (s : DbValue g.row.D.Denot). CarriesOwn g.D.Disk s c.args.pass.now b c.log_step.new.pass) c.self.view_is
-    (carries g.D.Disk a b c.args.pass.now c.log_step.new.pass f.refused f.refused_sees_on e.rises e.pass))
-
-pub returns-in_err-log_step-clause-cause : goal.returns-in_err-log_step-clause-cause
-returns-in_err-log_step-clause-cause g c =
-    let a : DbValue g.row.D.Denot = record { frames = c.self.inside.frames; pending = c.self.inside.pending } in
-    let e = c.log_step.ensures in
-    let p = err_from_is_err_and c.from_residual.result c.from_residual.ensures.1 in
-    let next = next_record a.frames.journal c.args.step in
-    let why = log_cause a next c.args.step.kind c.log_step.result _ c.in_err-log_step.was c.requires.document e.full
-    e.spent e.is_down in
-    subst (λ (r : Result Drawn DbError). IfErr r (λ (d : DbError).
-    CannotLog c.args.self.now (next_record c.args.self.now.frames.journal c.args.step) d)) (sym p.1)
-    (subst (λ (s : DbValue g.row.D.Denot). CannotLog s (next_record s.frames.journal c.args.step) p.0) c.self.view_is
-    (subst (CannotLog a next) (sym p.2) why))
-
-pub returns-clause-logged : goal.returns-clause-logged
-returns-clause-logged g c =
-    let a : DbValue g.row.D.Denot = record { frames = c.self.inside.frames; pending = c.self.inside.pending } in
-    let b : DbValue g.row.D.Denot = record { frames = c.log_step.new.self; pending = c.self.inside.pending } in
+pub returns-in-Ok-clause-logged : goal.returns-in-Ok-clause-logged
+returns-in-Ok-clause-logged g c =
     let items : c.push_reserved.new.self.items ≡ c.args.held ∷ [] =
-    c.push_reserved.ensures.items
-    ∙ ap (λ (l : List Sheet). l ++ c.args.held ∷ []) (c.reserve.ensures.items ∙ c.new-pages.ensures.items) in
-    let e = c.log_step.ensures in
-    let f = c.in_ok-log_step.ensures in
-    subst (λ (s : DbValue g.row.D.Denot).
-    LogsStep g.D.Disk s c.args.pass.now (c.args.held ∷ []) c.args.step b c.log_step.new.pass) c.self.view_is
-    (record {
-      one =
-          logged_step g.D.Disk a b refl c.log_step.result _ c.args.step c.in_ok-log_step.was f.added f.logged f.legal
-          f.state
-          e.full e.is_down e.runs_on
-          (f.begins (early_of c.args.step.kind c.requires.document)) e.cause e.pins
-          (e.rests (rests_of c.args.step.kind c.requires.document));
-      seen = subst (λ (l : List Sheet). Seen g.D.Disk b.frames c.log_step.new.pass
-          (λ (S : Log) (P : Pages). IsLogged (view_of b.frames c.args.pass.now S l) c.args.step S P)) items f.seen;
-      rises = (e.rises).seen;
-      all = f.all;
+    c.push_reserved.ensures.items ∙ ap (λ (l : List Sheet). l ++ c.args.held ∷ []) c.in-Ok.ensures.none in
+    linked_all _ _ c.log_pages.result
+    (λ logs. record {
+      step = c.in-Ok.step;
+      made_is = c.in-Ok.ensures.made;
+      logs = subst (λ (l : List Sheet). LogsStep g.D.Disk c.args.self.now c.args.pass.now l c.in-Ok.step
+          c.log_pages.new.self c.log_pages.new.pass) items logs;
     })
+    c.log_pages.ensures.logged
+
+pub returns-in-Ok-clause-drawn : goal.returns-in-Ok-clause-drawn
+returns-in-Ok-clause-drawn g c =
+    at_ok c.log_pages.result _ _
+    (λ d is s made. is ∙ ap (λ (q : Step). drawn_by (state_then c.args.self.now) q.kind)
+    (ok_one c.args.made c.in-Ok.step s c.in-Ok.ensures.made made))
+    c.log_pages.ensures.drawn
+
+pub returns-in-Ok-clause-cause : goal.returns-in-Ok-clause-cause
+returns-in-Ok-clause-cause g c =
+    if_err c.log_pages.result (λ e why. cannot_log c.args.self.now c.args.made e c.in-Ok.step c.in-Ok.ensures.made why)
+    c.log_pages.ensures.cause
+
+pub give_back-requires-clause-holding : goal.give_back-requires-clause-holding
+give_back-requires-clause-holding g c = ([], c.requires.holding)
+
+pub returns-in-Err-clause-none_held : goal.returns-in-Err-clause-none_held
+returns-in-Err-clause-none_held g c = sym (c.give_back.ensures.holding [] c.requires.holding).all
+
+pub returns-in-Err-clause-fault : goal.returns-in-Err-clause-fault
+returns-in-Err-clause-fault g c =
+    unmade_told g.D.Disk Drawn c.args.self.now c.give_back.new.self c.args.made c.in-Err.error c.requires.calm
+    c.in-Err.ensures.cause c.give_back.ensures.met
+
+pub returns-in-Err-clause-cause : goal.returns-in-Err-clause-cause
+returns-in-Err-clause-cause g c = unmade c.args.self.now c.args.made c.in-Err.error c.in-Err.ensures.cause

@@ -7,6 +7,7 @@ use Rattle.core_state.specs.Allowed.{MayLog}
 use Rattle.buffer_frames.specs.Frames.{Behind}
 use Rattle.buffer_frames.specs.Journals.{next_record}
 use Rattle.buffer_frames.specs.Passes.{view_of}
+use Rattle.buffer_frames.specs.declared.step.Drawn.{Drawn}
 use Rattle.engine.specs.Db.{DbValue}
 use Rattle.engine.specs.Going.{Goes, FaultIsTold}
 use Rattle.engine.specs.Inner.Changing.{LogsStep, CannotLog}
@@ -30,8 +31,8 @@ returns-in_err-log_step-clause-fault g c =
     let e = c.log_step.ensures in
     let p = err_from_is_err_and c.from_residual.result c.from_residual.ensures.1 in
     subst (λ (s : DbValue g.row.D.Denot). FaultIsTold g.D.Disk s b c.from_residual.result) c.self.view_is
-    (subst (λ (r : Result (Unit {0}) DbError). FaultIsTold g.D.Disk a b r) (sym (p.1 ∙ ap Err p.2))
-    (write_told g.D.Disk (Unit {0}) a b c.log_step.result _ c.in_err-log_step.was e.is_down e.cause e.goes_down))
+    (subst (λ (r : Result Drawn DbError). FaultIsTold g.D.Disk a b r) (sym (p.1 ∙ ap Err p.2))
+    (write_told g.D.Disk Drawn a b c.log_step.result _ c.in_err-log_step.was e.is_down e.cause e.goes_down))
 
 pub returns-in_err-log_step-clause-refused : goal.returns-in_err-log_step-clause-refused
 returns-in_err-log_step-clause-refused g c =
@@ -40,7 +41,7 @@ returns-in_err-log_step-clause-refused g c =
     let e = c.log_step.ensures in
     let f = c.in_err-log_step.ensures in
     let p = err_from_is_err_and c.from_residual.result c.from_residual.ensures.1 in
-    subst (λ (r : Result (Unit {0}) DbError). OnErr r (Goes g.D.Disk c.args.self.now b [])) (sym p.1)
+    subst (λ (r : Result Drawn DbError). OnErr r (Goes g.D.Disk c.args.self.now b [])) (sym p.1)
     (subst (λ (s : DbValue g.row.D.Denot). Goes g.D.Disk s b []) c.self.view_is
     (one_nothing g.D.Disk
     (write_step g.D.Disk a b refl c.log_step.result f.refused f.refused_state e.runs_on f.refused_begins e.cause
@@ -53,7 +54,7 @@ returns-in_err-log_step-clause-carries g c =
     let e = c.log_step.ensures in
     let f = c.in_err-log_step.ensures in
     let p = err_from_is_err_and c.from_residual.result c.from_residual.ensures.1 in
-    subst (λ (r : Result (Unit {0}) DbError).
+    subst (λ (r : Result Drawn DbError).
     OnErr r (CarriesOwn g.D.Disk c.args.self.now c.args.pass.now b c.log_step.new.pass)) (sym p.1)
     (subst (λ (s : DbValue g.row.D.Denot). CarriesOwn g.D.Disk s c.args.pass.now b c.log_step.new.pass) c.self.view_is
     (carries g.D.Disk a b c.args.pass.now c.log_step.new.pass f.refused f.refused_sees_on e.rises e.pass))
@@ -66,7 +67,7 @@ returns-in_err-log_step-clause-cause g c =
     let next = next_record a.frames.journal c.args.step in
     let why = log_cause a next c.args.step.kind c.log_step.result _ c.in_err-log_step.was c.requires.document e.full
     e.spent e.is_down in
-    subst (λ (r : Result (Unit {0}) DbError). IfErr r (λ (d : DbError).
+    subst (λ (r : Result Drawn DbError). IfErr r (λ (d : DbError).
     CannotLog c.args.self.now (next_record c.args.self.now.frames.journal c.args.step) d)) (sym p.1)
     (subst (λ (s : DbValue g.row.D.Denot). CannotLog s (next_record s.frames.journal c.args.step) p.0) c.self.view_is
     (subst (CannotLog a next) (sym p.2) why))

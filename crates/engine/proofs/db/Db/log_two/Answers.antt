@@ -1,147 +1,97 @@
--- A step on two pages is logged, or refused.
-use Rattle.std.proofs.Common.{refl, ◌≡◌, List, [], ◌∷◌, ◌++◌, sym, ap, subst, ◌∙◌}
-use Rattle.std.specs.Prelude.{Result, Err, IfErr, OnErr}
+-- A step that was made is logged on two pages, or they are given back.
+use Rattle.std.proofs.Common.{◌≡◌, List, [], ◌∷◌, ◌++◌, sym, ap, subst, ◌∙◌}
+use Rattle.std.specs.Prelude.{Result, IfErr, OnErr}
 use Rattle.std.proofs.lemmas.Result.{err_from_is_err_and}
-use Rattle.core_state.specs.Log.{Log, Pages}
-use Rattle.core_state.specs.Allowed.{Sheet, MayLog}
-use Rattle.buffer_frames.specs.Frames.{Behind}
-use Rattle.buffer_frames.specs.Journals.{next_record}
-use Rattle.buffer_frames.specs.Passes.{IsHolding, Seen, IsLogged, view_of}
-use Rattle.buffer_frames.specs.declared.step.Drawn.{Drawn}
-use Rattle.engine.specs.Db.{DbValue}
-use Rattle.engine.specs.Going.{Goes, nothing, FaultIsTold}
-use Rattle.engine.specs.Inner.Changing.{LogsStep, CannotLog}
+use Rattle.core_state.specs.Allowed.{Sheet}
+use Rattle.engine.specs.Going.{Goes}
+use Rattle.engine.specs.Inner.Changing.{MayLogStep, LogsStep, CannotLogMade}
 use Rattle.engine.specs.Inner.Parts.{CarriesOwn}
 use Rattle.engine.specs.declared.error.DbError.{DbError}
-use Rattle.engine.proofs.Carrying.{carries, carries_on}
-use Rattle.engine.proofs.Logging.{early_of, rests_of, log_cause}
-use Rattle.engine.proofs.Paths.{one_nothing, calm_step, write_step, logged_step, write_told}
+use Rattle.engine.proofs.LinkAnswers.{cannot_log, unmade, unmade_told}
+use Rattle.engine.proofs.Carrying.{carries_on, keeps_on}
+use Rattle.engine.proofs.Paths.{goes_still, none_in_turn}
+use Rattle.engine.proofs.ReadSteps.{refused_told}
 use Rattle.engine.proofs.db.Db.log_two.Goals as goal
 
-pub returns-then-is_err-clause-none_held : goal.returns-then-is_err-clause-none_held
-returns-then-is_err-clause-none_held g c =
-    let hold = subst (λ (s : DbValue g.row.D.Denot).
-    IsHolding g.D.Disk s.frames c.args.pass.now (c.args.new ∷ c.args.heap ∷ [])) (sym c.self.view_is)
-    c.requires.holding in
-    sym (c.release-then-is_err.ensures.holding [] (c.release.ensures.holding (c.args.heap ∷ []) hold)).all
-
-pub returns-then-is_err-clause-refused : goal.returns-then-is_err-clause-refused
-returns-then-is_err-clause-refused g c =
-    let a : DbValue g.row.D.Denot = record { frames = c.self.inside.frames; pending = c.self.inside.pending } in
-    let b : DbValue g.row.D.Denot = record { frames = c.release.new.self; pending = c.self.inside.pending } in
-    let d : DbValue g.row.D.Denot =
-    record { frames = c.release-then-is_err.new.self; pending = c.self.inside.pending } in
-    let e = c.release.ensures in
-    let f = c.release-then-is_err.ensures in
-    subst (λ (s : DbValue g.row.D.Denot). Goes g.D.Disk s d []) c.self.view_is
-    (nothing
-    (one_nothing g.D.Disk (calm_step g.D.Disk a b refl e.added e.state e.runs_on e.begins e.calm e.pins))
-    (calm_step g.D.Disk b d refl f.added f.state f.runs_on f.begins f.calm f.pins))
-
-pub returns-then-is_err-clause-carries : goal.returns-then-is_err-clause-carries
-returns-then-is_err-clause-carries g c =
-    let a : DbValue g.row.D.Denot = record { frames = c.self.inside.frames; pending = c.self.inside.pending } in
-    let b : DbValue g.row.D.Denot = record { frames = c.release.new.self; pending = c.self.inside.pending } in
-    let d : DbValue g.row.D.Denot =
-    record { frames = c.release-then-is_err.new.self; pending = c.self.inside.pending } in
-    let e = c.release.ensures in
-    let f = c.release-then-is_err.ensures in
-    subst (λ (s : DbValue g.row.D.Denot). CarriesOwn g.D.Disk s c.args.pass.now d c.release-then-is_err.new.pass)
-    c.self.view_is
-    (carries_on g.D.Disk a b d c.args.pass.now c.release.new.pass c.release-then-is_err.new.pass (e.same).2
-    (carries g.D.Disk a b c.args.pass.now c.release.new.pass e.added e.sees_on e.rises e.pass)
-    (carries g.D.Disk b d c.release.new.pass c.release-then-is_err.new.pass f.added f.sees_on f.rises f.pass))
-
-pub release-requires-then-is_err-clause-holding : goal.release-requires-then-is_err-clause-holding
-release-requires-then-is_err-clause-holding g c =
-    let hold = subst (λ (s : DbValue g.row.D.Denot).
-    IsHolding g.D.Disk s.frames c.args.pass.now (c.args.new ∷ c.args.heap ∷ [])) (sym c.self.view_is)
-    c.requires.holding in
-    ([], c.release.ensures.holding (c.args.heap ∷ []) hold)
-
-pub log_step-requires-clause-may : goal.log_step-requires-clause-may
-log_step-requires-clause-may g c =
-    let items : c.push_reserved-2.new.self.items ≡ c.args.new ∷ c.args.heap ∷ [] =
-    c.push_reserved-2.ensures.items
+pub log_pages-requires : goal.log_pages-requires
+log_pages-requires g c =
+    let items : c.push_reserved-in-Ok.new.self.items ≡ c.args.new ∷ c.args.heap ∷ [] =
+    c.push_reserved-in-Ok.ensures.items
     ∙ ap (λ (l : List Sheet). l ++ c.args.heap ∷ []) (c.push_reserved.ensures.items
-    ∙ ap (λ (l : List Sheet). l ++ c.args.new ∷ []) (c.reserve.ensures.items ∙ c.new-pages.ensures.items)) in
-    subst (λ (l : List Sheet). Behind g.D.Disk c.self.inside.frames
-    (λ (R : Log). MayLog (view_of c.self.inside.frames c.args.pass.now R l) c.args.step)) (sym items)
-    (subst (λ (s : DbValue g.row.D.Denot). Behind g.D.Disk s.frames
-    (λ (R : Log). MayLog (view_of s.frames c.args.pass.now R (c.args.new ∷ c.args.heap ∷ [])) c.args.step))
-    (sym c.self.view_is)
-    c.requires.may)
+    ∙ ap (λ (l : List Sheet). l ++ c.args.new ∷ []) c.in-Ok.ensures.none) in
+    subst (λ (l : List Sheet). MayLogStep g.D.Disk c.args.self.now c.args.pass.now l c.in-Ok.step) (sym items)
+    (c.requires.may c.in-Ok.step c.in-Ok.ensures.made)
 
-pub returns-in_err-log_step-clause-fault : goal.returns-in_err-log_step-clause-fault
-returns-in_err-log_step-clause-fault g c =
-    let a : DbValue g.row.D.Denot = record { frames = c.self.inside.frames; pending = c.self.inside.pending } in
-    let b : DbValue g.row.D.Denot = record { frames = c.log_step.new.self; pending = c.self.inside.pending } in
-    let e = c.log_step.ensures in
+pub returns-in_err-log_pages-in-Ok-clause-fault : goal.returns-in_err-log_pages-in-Ok-clause-fault
+returns-in_err-log_pages-in-Ok-clause-fault g c =
     let p = err_from_is_err_and c.from_residual.result c.from_residual.ensures.1 in
-    subst (λ (s : DbValue g.row.D.Denot). FaultIsTold g.D.Disk s b c.from_residual.result) c.self.view_is
-    (subst (λ (r : Result Drawn DbError). FaultIsTold g.D.Disk a b r) (sym (p.1 ∙ ap Err p.2))
-    (write_told g.D.Disk Drawn a b c.log_step.result _ c.in_err-log_step.was e.is_down e.cause e.goes_down))
+    refused_told g.D.Disk c.args.self.now c.log_pages.new.self c.log_pages.result c.from_residual.result _ p.0
+    c.in_err-log_pages-in-Ok.was p.1 p.2 c.log_pages.ensures.fault
 
-pub returns-in_err-log_step-clause-refused : goal.returns-in_err-log_step-clause-refused
-returns-in_err-log_step-clause-refused g c =
-    let a : DbValue g.row.D.Denot = record { frames = c.self.inside.frames; pending = c.self.inside.pending } in
-    let b : DbValue g.row.D.Denot = record { frames = c.log_step.new.self; pending = c.self.inside.pending } in
-    let e = c.log_step.ensures in
-    let f = c.in_err-log_step.ensures in
+pub returns-in_err-log_pages-in-Ok-clause-refused : goal.returns-in_err-log_pages-in-Ok-clause-refused
+returns-in_err-log_pages-in-Ok-clause-refused g c =
     let p = err_from_is_err_and c.from_residual.result c.from_residual.ensures.1 in
-    subst (λ (r : Result Drawn DbError). OnErr r (Goes g.D.Disk c.args.self.now b [])) (sym p.1)
-    (subst (λ (s : DbValue g.row.D.Denot). Goes g.D.Disk s b []) c.self.view_is
-    (one_nothing g.D.Disk
-    (write_step g.D.Disk a b refl c.log_step.result f.refused f.refused_state e.runs_on f.refused_begins e.cause
-    e.pins)))
+    subst (λ (r : Result (Unit {0}) DbError). OnErr r (Goes g.D.Disk c.args.self.now c.log_pages.new.self [])) (sym p.1)
+    c.in_err-log_pages-in-Ok.ensures.refused
 
-pub returns-in_err-log_step-clause-carries : goal.returns-in_err-log_step-clause-carries
-returns-in_err-log_step-clause-carries g c =
-    let a : DbValue g.row.D.Denot = record { frames = c.self.inside.frames; pending = c.self.inside.pending } in
-    let b : DbValue g.row.D.Denot = record { frames = c.log_step.new.self; pending = c.self.inside.pending } in
-    let e = c.log_step.ensures in
-    let f = c.in_err-log_step.ensures in
+pub returns-in_err-log_pages-in-Ok-clause-carries : goal.returns-in_err-log_pages-in-Ok-clause-carries
+returns-in_err-log_pages-in-Ok-clause-carries g c =
     let p = err_from_is_err_and c.from_residual.result c.from_residual.ensures.1 in
-    subst (λ (r : Result Drawn DbError).
-    OnErr r (CarriesOwn g.D.Disk c.args.self.now c.args.pass.now b c.log_step.new.pass)) (sym p.1)
-    (subst (λ (s : DbValue g.row.D.Denot). CarriesOwn g.D.Disk s c.args.pass.now b c.log_step.new.pass) c.self.view_is
-    (carries g.D.Disk a b c.args.pass.now c.log_step.new.pass f.refused f.refused_sees_on e.rises e.pass))
+    subst (λ (r : Result (Unit {0}) DbError).
+    OnErr r (CarriesOwn g.D.Disk c.args.self.now c.args.pass.now c.log_pages.new.self c.log_pages.new.pass)) (sym p.1)
+    c.in_err-log_pages-in-Ok.ensures.carries
 
-pub returns-in_err-log_step-clause-cause : goal.returns-in_err-log_step-clause-cause
-returns-in_err-log_step-clause-cause g c =
-    let a : DbValue g.row.D.Denot = record { frames = c.self.inside.frames; pending = c.self.inside.pending } in
-    let e = c.log_step.ensures in
+pub returns-in_err-log_pages-in-Ok-clause-cause : goal.returns-in_err-log_pages-in-Ok-clause-cause
+returns-in_err-log_pages-in-Ok-clause-cause g c =
     let p = err_from_is_err_and c.from_residual.result c.from_residual.ensures.1 in
-    let next = next_record a.frames.journal c.args.step in
-    let why = log_cause a next c.args.step.kind c.log_step.result _ c.in_err-log_step.was c.requires.document e.full
-    e.spent e.is_down in
-    subst (λ (r : Result Drawn DbError). IfErr r (λ (d : DbError).
-    CannotLog c.args.self.now (next_record c.args.self.now.frames.journal c.args.step) d)) (sym p.1)
-    (subst (λ (s : DbValue g.row.D.Denot). CannotLog s (next_record s.frames.journal c.args.step) p.0) c.self.view_is
-    (subst (CannotLog a next) (sym p.2) why))
+    let Why = CannotLogMade c.args.self.now c.args.made in
+    subst (λ (r : Result (Unit {0}) DbError). IfErr r Why) (sym p.1) (subst Why (sym p.2)
+    (cannot_log c.args.self.now c.args.made _ c.in-Ok.step c.in-Ok.ensures.made c.in_err-log_pages-in-Ok.ensures.cause))
 
-pub returns-clause-logged : goal.returns-clause-logged
-returns-clause-logged g c =
-    let a : DbValue g.row.D.Denot = record { frames = c.self.inside.frames; pending = c.self.inside.pending } in
-    let b : DbValue g.row.D.Denot = record { frames = c.log_step.new.self; pending = c.self.inside.pending } in
-    let items : c.push_reserved-2.new.self.items ≡ c.args.new ∷ c.args.heap ∷ [] =
-    c.push_reserved-2.ensures.items
+pub returns-in_ok-log_pages-in-Ok-clause-logged : goal.returns-in_ok-log_pages-in-Ok-clause-logged
+returns-in_ok-log_pages-in-Ok-clause-logged g c =
+    let items : c.push_reserved-in-Ok.new.self.items ≡ c.args.new ∷ c.args.heap ∷ [] =
+    c.push_reserved-in-Ok.ensures.items
     ∙ ap (λ (l : List Sheet). l ++ c.args.heap ∷ []) (c.push_reserved.ensures.items
-    ∙ ap (λ (l : List Sheet). l ++ c.args.new ∷ []) (c.reserve.ensures.items ∙ c.new-pages.ensures.items)) in
-    let e = c.log_step.ensures in
-    let f = c.in_ok-log_step.ensures in
-    subst (λ (s : DbValue g.row.D.Denot).
-    LogsStep g.D.Disk s c.args.pass.now (c.args.new ∷ c.args.heap ∷ []) c.args.step b c.log_step.new.pass)
-    c.self.view_is
-    (record {
-      one =
-          logged_step g.D.Disk a b refl c.log_step.result _ c.args.step c.in_ok-log_step.was f.added f.logged f.legal
-          f.state
-          e.full e.is_down e.runs_on
-          (f.begins (early_of c.args.step.kind c.requires.document)) e.cause e.pins
-          (e.rests (rests_of c.args.step.kind c.requires.document));
-      seen = subst (λ (l : List Sheet). Seen g.D.Disk b.frames c.log_step.new.pass
-          (λ (S : Log) (P : Pages). IsLogged (view_of b.frames c.args.pass.now S l) c.args.step S P)) items f.seen;
-      rises = (e.rises).seen;
-      all = f.all;
-    })
+    ∙ ap (λ (l : List Sheet). l ++ c.args.new ∷ []) c.in-Ok.ensures.none) in
+    record {
+      step = c.in-Ok.step;
+      made_is = c.in-Ok.ensures.made;
+      logs = subst (λ (l : List Sheet). LogsStep g.D.Disk c.args.self.now c.args.pass.now l c.in-Ok.step
+          c.log_pages.new.self c.log_pages.new.pass) items c.in_ok-log_pages-in-Ok.ensures.logged;
+    }
+
+pub give_back-requires-clause-holding : goal.give_back-requires-clause-holding
+give_back-requires-clause-holding g c = (c.args.heap ∷ [], c.requires.holding)
+
+pub give_back-requires-in-Err-clause-holding : goal.give_back-requires-in-Err-clause-holding
+give_back-requires-in-Err-clause-holding g c =
+    ([], c.give_back.ensures.holding (c.args.heap ∷ []) c.requires.holding)
+
+pub returns-in-Err-clause-none_held : goal.returns-in-Err-clause-none_held
+returns-in-Err-clause-none_held g c =
+    sym (c.give_back-in-Err.ensures.holding []
+    (c.give_back.ensures.holding (c.args.heap ∷ []) c.requires.holding)).all
+
+pub returns-in-Err-clause-fault : goal.returns-in-Err-clause-fault
+returns-in-Err-clause-fault g c =
+    unmade_told g.D.Disk (Unit {0}) c.args.self.now c.give_back-in-Err.new.self c.args.made c.in-Err.error
+    c.requires.calm c.in-Err.ensures.cause
+    (none_in_turn g.D.Disk c.give_back.ensures.met c.give_back-in-Err.ensures.met)
+
+pub returns-in-Err-clause-refused : goal.returns-in-Err-clause-refused
+returns-in-Err-clause-refused g c = goes_still g.D.Disk c.give_back.ensures.goes c.give_back-in-Err.ensures.goes
+
+pub returns-in-Err-clause-carries : goal.returns-in-Err-clause-carries
+returns-in-Err-clause-carries g c =
+    carries_on g.D.Disk c.args.self.now c.give_back.new.self c.give_back-in-Err.new.self c.args.pass.now
+    c.give_back.new.pass c.give_back-in-Err.new.pass (c.give_back.ensures.keeps).xid c.give_back.ensures.carries
+    c.give_back-in-Err.ensures.carries
+
+pub returns-in-Err-clause-cause : goal.returns-in-Err-clause-cause
+returns-in-Err-clause-cause g c = unmade c.args.self.now c.args.made c.in-Err.error c.in-Err.ensures.cause
+
+pub returns-in-Err-clause-keeps : goal.returns-in-Err-clause-keeps
+returns-in-Err-clause-keeps g c =
+    keeps_on c.args.pass.now c.give_back.new.pass c.give_back-in-Err.new.pass c.give_back.ensures.keeps
+    c.give_back-in-Err.ensures.keeps

@@ -14,6 +14,7 @@ use Rattle.engine.specs.declared.error.DbError.{DbError}
 use Rattle.engine.proofs.Paths.{told_in_turn, time_of}
 use Rattle.engine.proofs.Doing.{placed, stopped, unplaced, not_removed}
 use Rattle.engine.proofs.LawfulWork.{removal_tells, placing_tells}
+use Rattle.engine.proofs.Carrying.{keeps_on}
 use Rattle.engine.proofs.db.Db.place.Goals as goal
 
 pub returns-in_err-bytes-clause-refused : goal.returns-in_err-bytes-clause-refused
@@ -127,3 +128,7 @@ returns-clause-lawful g c =
     c.args.vector.now c.in_ok-remove.ensures.done c.in_ok-remove.ensures.fault c.deref.result.now
     (map (λ (key : Vec ℕ Global). key.items) c.deref-2.result.now) c.put.result
     c.put.ensures.cause c.put.ensures.lawful
+
+pub returns-clause-keeps : goal.returns-clause-keeps
+returns-clause-keeps g c =
+    keeps_on c.args.pass.now c.remove.new.pass c.put.new.pass c.remove.ensures.keeps c.put.ensures.keeps

@@ -8,7 +8,7 @@ use Rattle.engine.specs.Answers.{HasStored, IsLawfulRefusal}
 use Rattle.engine.specs.declared.error.DbError.{DbError}
 use Rattle.engine.specs.declared.transaction.Transaction.{Transaction}
 use Rattle.engine.proofs.LawfulWork.{begin_tells, end_tells}
-use Rattle.engine.proofs.Storing.{has_begun, not_begun, answers, stored, path, changed_some}
+use Rattle.engine.proofs.Storing.{has_begun, not_begun, answers, stored, path, changed_some, up_after, snapshot_on}
 use Rattle.engine.proofs.db.Db.store.Goals as goal
 
 pub returns-in_err-work-clause-answered : goal.returns-in_err-work-clause-answered
@@ -29,6 +29,12 @@ returns-in_err-work-clause-lawful g c =
     subst (λ (r : Result Name DbError). IfErr r (λ e. IsLawfulRefusal g.D.Disk c.args.self.now w e))
     (sym (p.1 ∙ ap Err p.2))
     (begin_tells g.D.Disk c.args.self.now c.begin.new.self w (c.in_err-work.field-0).0 c.in_err-work.ensures.cause)
+
+pub finish-requires-clause-up : goal.finish-requires-clause-up
+finish-requires-clause-up g c =
+    let e = c.in_ok-work.ensures in
+    up_after g.D.Disk c.begin.new.self c.place-placed.new.self c.place-placed.result (e.fault.down ∙ e.may.0)
+    c.place-placed.ensures.fault
 
 pub finish-requires-clause-changed : goal.finish-requires-clause-changed
 finish-requires-clause-changed g c =
@@ -73,3 +79,9 @@ returns-clause-lawful g c =
     let b = has_begun g.D.Disk c.args.self.now c.begin.new.self c.in_ok-work.work w e.snapshot e.begun e.may e.fault in
     end_tells g.D.Disk c.args.self.now c.begin.new.self c.in_ok-work.work w b c.place-placed.new.self c.finish.new.self
     c.finish.new.pass c.place-placed.result c.finish.result c.place-placed.ensures.lawful c.finish.ensures.ended
+
+pub returns-clause-snapshot : goal.returns-clause-snapshot
+returns-clause-snapshot g c =
+    snapshot_on c.args.self.now c.begin.new.self c.finish.new.self c.args.pass.now c.begin.new.pass c.place-placed.new.pass
+    c.finish.new.pass c.begin.ensures.takes c.place-placed.ensures.keeps c.finish.ensures.keeps
+    c.finish.ensures.session.is_pass

@@ -7,7 +7,7 @@ use Rattle.engine.specs.Answers.{HasDeleted, IsLawfulRefusal}
 use Rattle.engine.specs.declared.error.DbError.{DbError}
 use Rattle.engine.specs.declared.transaction.Transaction.{Transaction}
 use Rattle.engine.proofs.LawfulWork.{begin_tells, end_tells}
-use Rattle.engine.proofs.Storing.{has_begun, not_begun, answers, deleted, path, removed_some, stopped_none}
+use Rattle.engine.proofs.Storing.{has_begun, not_begun, answers, deleted, path, removed_some, stopped_none, up_after, snapshot_on}
 use Rattle.engine.proofs.db.Db.take_away.Goals as goal
 
 pub returns-in_err-work-clause-answered : goal.returns-in_err-work-clause-answered
@@ -29,6 +29,12 @@ returns-in_err-work-clause-lawful g c =
     subst (λ (r : Result (Unit {0}) DbError). IfErr r (λ e. IsLawfulRefusal g.D.Disk c.args.self.now w e))
     (sym (p.1 ∙ ap Err p.2))
     (begin_tells g.D.Disk c.args.self.now c.begin.new.self w (c.in_err-work.field-0).0 c.in_err-work.ensures.cause)
+
+pub finish-requires-clause-up : goal.finish-requires-clause-up
+finish-requires-clause-up g c =
+    let e = c.in_ok-work.ensures in
+    up_after g.D.Disk c.begin.new.self c.remove-removed.new.self c.remove-removed.result (e.fault.down ∙ e.may.0)
+    c.remove-removed.ensures.fault
 
 pub finish-requires-clause-changed : goal.finish-requires-clause-changed
 finish-requires-clause-changed g c =
@@ -80,3 +86,9 @@ returns-clause-lawful g c =
     end_tells g.D.Disk c.args.self.now c.begin.new.self c.in_ok-work.work w b c.remove-removed.new.self
     c.finish.new.self c.finish.new.pass c.remove-removed.result c.finish.result c.remove-removed.ensures.lawful
     c.finish.ensures.ended
+
+pub returns-clause-snapshot : goal.returns-clause-snapshot
+returns-clause-snapshot g c =
+    snapshot_on c.args.self.now c.begin.new.self c.finish.new.self c.args.pass.now c.begin.new.pass c.remove-removed.new.pass
+    c.finish.new.pass c.begin.ensures.takes c.remove-removed.ensures.keeps c.finish.ensures.keeps
+    c.finish.ensures.session.is_pass

@@ -23,6 +23,9 @@ returns-clause-works g c =
       pinned = λ tells up R stands legal place p is. (stands.pins tells up legal).each place p (e.pinned place p is);
     }
 
+pub returns-clause-vacuumed : goal.returns-clause-vacuumed
+returns-clause-vacuumed g c = c.maintained-vacuumed.ensures.answered
+
 pub returns-clause-goes_on : goal.returns-clause-goes_on
 returns-clause-goes_on g c =
     let e = c.maintained-vacuumed.ensures in
