@@ -1,5 +1,4 @@
 mod Deletions
-mod FirstKey
 mod Rights
 mod Rising
 mod Turning

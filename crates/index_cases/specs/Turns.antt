@@ -26,6 +26,8 @@ pub record AreFresh {D : Type 0} (f : FramesValue D) (pass : Pass) : Type 0 wher
   pub whole : IsWhole f.journal pass
   pub free : IsRightFree f
   pub pins : f.pins ≡ replicate PLACES None
+  pub none : pass.pin ≡ None
+  pub held : pass.held ≡ 0
 
 -- the pass scans, without a transaction or the right of maintenance, by all rooms but one
 pub record Scans {D : Type 0} (device : Disk D) (f : FramesValue D) (pass : Pass) (scan : Scan) : Type 0 where

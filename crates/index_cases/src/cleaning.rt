@@ -1,13 +1,16 @@
 // The cleanup of what the list of a device has, and what the trees then have.
-ghost use Rattle.std.specs.Prelude.{◌≡◌, []};
+ghost use Rattle.std.specs.Prelude.{◌≡◌, ℕ, []};
 ghost use Rattle.buffer_frames.specs.Passes.{IsPassOf, IsHolding};
+ghost use Rattle.gin_cleanup.specs.Cleaning.{IsCleaning};
 ghost use Rattle.index_cases.specs.Working.{Works};
 
+use crate::pages::{Silent, opened, synced};
+use crate::refused;
 use crate::rows::Row;
-use anyhow::{Result, bail};
+use anyhow::Result;
 use bench_base::Bench;
 use buffer_frames::{FrameError, Frames, Pass};
-use disk_trait::Disk;
+use disk_trait::{Disk, MemoryDisk};
 use gin_cleanup::Cleanup;
 use gin_place::PlaceError;
 use page_types::{Body, Entries, PAGE_LIMIT, Page, PostingsRef};
@@ -21,6 +24,26 @@ const MOST_READ: u64 = 4096;
 /// More steps than a cleanup takes here.
 const MOST_STEPS: u64 = 1_000_000;
 
+/// Takes all steps of a cleanup.
+fn step_all<D: Disk>(
+    alloc: Global,
+    frames: &mut Frames<D>,
+    pass: &mut Pass,
+    cleanup: &mut Cleanup,
+) -> result::Result<(), PlaceError>
+    requires working { Works frames.old pass.old 16 }
+    requires cleaning { (from : ℕ) × IsCleaning D.Disk frames.old pass.old from cleanup.old }
+    ensures working { Works frames.new pass.new 16 }
+{
+    for _ in 0..MOST_STEPS {
+        let more = cleanup.step(alloc, frames, pass)?;
+        if !more {
+            return Ok(());
+        }
+    }
+    Err(PlaceError::OutOfMemory)
+}
+
 /// Cleans the pending list, by a pass that has the right of maintenance.
 pub(crate) fn clean<D: Disk>(
     alloc: Global,
@@ -31,13 +54,9 @@ pub(crate) fn clean<D: Disk>(
     ensures working { Works frames.new pass.new 16 }
 {
     let mut cleanup = Cleanup::begin(alloc, frames, pass)?;
-    for _ in 0..MOST_STEPS {
-        let more = cleanup.step(alloc, frames, pass)?;
-        if !more {
-            return Ok(());
-        }
-    }
-    Err(PlaceError::OutOfMemory)
+    let done = step_all(alloc, frames, pass, &mut cleanup);
+    drop(cleanup);
+    done
 }
 
 /// Whether a key is that of a word, or, where the word is `-`, the placeholder's, or any where it is `*`.
@@ -118,7 +137,7 @@ fn count_in(list: &[u8]) -> u64 {
 
 /// How many items the trees have for a word, and how many pages are read for it: the leftmost way of the tree of keys,
 /// and then all leaves, and the same of the word's posting tree.
-pub(crate) fn walk<D: Disk>(
+fn walk<D: Disk>(
     frames: &mut Frames<D>,
     pass: &mut Pass,
     word: &str,
@@ -148,19 +167,26 @@ pub(crate) fn walk<D: Disk>(
     Ok((items, MOST_READ))
 }
 
-/// Prints them, for the word of a row.
-pub(crate) fn print_tree<D: Disk>(
-    bench: &Bench<'_>,
-    frames: &mut Frames<D>,
-    pass: &mut Pass,
-    row: Row<'_>,
-) -> Result<()>
-    requires pass { IsPassOf frames.old pass.old }
-    requires held { pass.old.held ≡ 0 }
-    requires idle { IsHolding D.Disk frames.old pass.old [] }
-{
-    let Ok((items, pages)) = walk(frames, pass, row.words) else {
-        bail!("a page is not held");
+/// The same of the trees of a device; none where they are not read.
+pub(crate) fn walk_on(alloc: Global, disk: Silent, word: &str) -> Option<(u64, u64)> {
+    match opened(alloc, disk, "") {
+        Ok((mut frames, mut pass)) => {
+            let walked = walk(&mut frames, &mut pass, word);
+            drop(frames);
+            walked.ok()
+        }
+        Err(unopened) => {
+            drop(unopened);
+            None
+        }
+    }
+}
+
+/// Prints them, for the word of a row and what is synced of a device.
+pub(crate) fn run(bench: &Bench<'_>, disk: &MemoryDisk, row: Row<'_>) -> Result<()> {
+    let image = synced(bench.alloc(), disk)?;
+    let Some((items, pages)) = walk_on(bench.alloc(), image, row.words) else {
+        return Err(refused("a page is not held"));
     };
     bench.count(items, row.title)?;
     bench.count(pages, "pages of the tree read")

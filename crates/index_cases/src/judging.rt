@@ -1,6 +1,8 @@
 // What the model, a second reading of logs, finds in the log of a device.
+use crate::pages::{Silent, synced};
+use crate::refused;
 use crate::rows::Row;
-use anyhow::{Result, bail};
+use anyhow::Result;
 use bench_base::Bench;
 use disk_trait::{Disk, File, MemoryDisk};
 use log_scans::search_left;
@@ -10,17 +12,15 @@ use std::alloc::Global;
 /// The most bytes of a log that is read.
 const MOST_BYTES: u64 = 1 << 30;
 
-/// The bytes of a log.
-fn log_of(alloc: Global, disk: &mut MemoryDisk) -> Result<Vec<u8>> {
-    let length = match disk.length(File::Log) {
-        Ok(length) if length < MOST_BYTES => length,
-        _ => bail!("a log has no length"),
-    };
-    let mut bytes = vec![in alloc; 0u8; length as usize]?;
-    if disk.read(File::Log, 0, &mut bytes).is_err() {
-        bail!("a log is not read");
+/// The bytes of a log; none where they are not read.
+fn log_of(alloc: Global, disk: &mut Silent) -> Option<Vec<u8>> {
+    let length = disk.length(File::Log).ok()?;
+    if length > MOST_BYTES {
+        return None;
     }
-    Ok(bytes)
+    let mut bytes = vec![in alloc; 0u8; length as usize].ok()?;
+    disk.read(File::Log, 0, &mut bytes).ok()?;
+    Some(bytes)
 }
 
 /// Prints how many documents the model doesn't leave out for the query of a row, and of how many it says yes without
@@ -31,15 +31,18 @@ fn print_found(bench: &Bench<'_>, log: &[u8], row: Row<'_>) -> Result<()> {
             bench.count(found.kept.len() as u64, row.title)?;
             bench.count(found.yes.len() as u64, "without the vector")
         }
-        Err(Fault::Broken(rule)) => bail!("a log is not legal: {rule}"),
-        Err(Fault::OutOfMemory) => bail!("a log is not judged"),
+        Err(Fault::Broken(rule)) => Err(refused(rule)),
+        Err(Fault::OutOfMemory) => Err(refused("a log is not judged")),
     }
 }
 
 /// The same for what is synced of a device.
 pub(crate) fn run(bench: &Bench<'_>, disk: &MemoryDisk, row: Row<'_>) -> Result<()> {
-    let alloc = bench.alloc();
-    let mut image = disk.image(alloc, disk.calls(), 0)?;
-    let log = log_of(alloc, &mut image)?;
-    print_found(bench, &log, row)
+    let mut image = synced(bench.alloc(), disk)?;
+    let read = log_of(bench.alloc(), &mut image);
+    drop(image);
+    match read {
+        Some(log) => print_found(bench, &log, row),
+        None => Err(refused("a log is not read")),
+    }
 }

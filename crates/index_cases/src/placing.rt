@@ -1,19 +1,16 @@
 // Items that are put under keys, on a device that says nothing: so a program may place items that no row has.
-ghost use Rattle.std.specs.Prelude.{IfOk};
+ghost use Rattle.std.specs.Prelude.{◌≤◌, length, IfOk};
 ghost use Rattle.page_types.specs.Items.{AreItems};
 ghost use Rattle.page_types.specs.Keys.{IsKey};
 ghost use Rattle.index_cases.specs.Working.{Works};
 
+use crate::documents::{push_letters, push_number};
 use crate::rows::{number, word};
-use anyhow::Result;
 use buffer_frames::{Frames, Pass};
-use core_state::keys_are_one;
 use disk_trait::Disk;
 use gin_place::{PlaceError, place};
 use std::alloc::{AllocError, Global};
-use std::result;
-use ts_match::{text_class, vector_keys};
-use ts_vector::TsVector;
+use ts_match::text_class;
 
 /// The most items that a key gets here.
 const MOST_ITEMS: u32 = 100_000;
@@ -53,30 +50,38 @@ impl Load {
     }
 }
 
-/// The text of the word of so many letters that begins with a number.
-fn text_of(alloc: Global, number: u32, letters: u32) -> Result<String> {
-    let mut text = format!(in alloc; "{}", number.saturating_add(100_000))?;
-    for _ in 6..letters {
-        text.push('x')?;
-    }
-    text.push_str(":1")?;
-    Ok(text)
+/// Puts a word of so many letters that begins with a number.
+fn push_word(text: &mut String, number: u32, letters: u32) -> Result<(), AllocError> {
+    push_number(text, number.saturating_add(100_000))?;
+    push_letters(text, 'x', letters.saturating_sub(6))
 }
 
-/// The vector of that word.
-fn vector_of(alloc: Global, number: u32, letters: u32) -> Result<TsVector> {
-    let text = text_of(alloc, number, letters)?;
-    Ok(TsVector::parse(alloc, text.as_str())?)
+/// The key of this word: the byte 0, and the word.
+fn key_of(alloc: Global, word: &str) -> Result<Vec<u8>, AllocError>
+    requires some { 1 ≤ length word.now }
+    requires most { length word.now ≤ MOST_LETTERS }
+    ensures { IfOk result (λ key. IsKey key.items) }
+{
+    let mut key = vec![in alloc; 0u8]?;
+    key.extend_from_slice(word.as_bytes())?;
+    Ok(key)
+}
+
+/// The key of the word of so many letters that begins with a number; none where that has too many letters.
+fn key_with(alloc: Global, number: u32, letters: u32) -> Result<Vec<u8>, AllocError>
+    ensures { IfOk result (λ key. IsKey key.items) }
+{
+    let mut text = String::new(alloc);
+    push_word(&mut text, number, letters)?;
+    if text.is_empty() || text.len() > MOST_LETTERS as usize {
+        return Err(AllocError);
+    }
+    key_of(alloc, text.as_str())
 }
 
 /// So many items from one on, with this step from one to the next, as far as they are items.
 #[tactic(auto, using(crate::proofs::Rising::more_from, crate::proofs::Rising::above_from))]
-fn items_from(
-    alloc: Global,
-    first: u32,
-    step: u32,
-    count: u32,
-) -> result::Result<Vec<u32>, AllocError>
+fn items_from(alloc: Global, first: u32, step: u32, count: u32) -> Result<Vec<u32>, AllocError>
     ensures { IfOk result (λ items. AreItems items.items) }
 {
     let mut items = Vec::new(alloc);
@@ -101,7 +106,7 @@ fn put<D: Disk>(
     pass: &mut Pass,
     key: &[u8],
     items: &[u32],
-) -> result::Result<(), PlaceError>
+) -> Result<(), PlaceError>
     requires silent { D.tells → ⊥ }
     requires working { Works frames.old pass.old 16 }
     requires key { IsKey key.now }
@@ -120,7 +125,7 @@ fn put_parts<D: Disk>(
     pass: &mut Pass,
     key: &[u8],
     load: Load,
-) -> result::Result<(), PlaceError>
+) -> Result<(), PlaceError>
     requires silent { D.tells → ⊥ }
     requires working { Works frames.old pass.old 16 }
     requires key { IsKey key.now }
@@ -147,21 +152,14 @@ pub(crate) fn put_all<D: Disk>(
     frames: &mut Frames<D>,
     pass: &mut Pass,
     load: Load,
-) -> result::Result<(), PlaceError>
+) -> Result<(), PlaceError>
     requires silent { D.tells → ⊥ }
     requires working { Works frames.old pass.old 16 }
     ensures working { Works frames.new pass.new 16 }
 {
     for k in 0..load.keys {
-        let Ok(vector) = vector_of(alloc, k, load.letters) else {
-            return Err(PlaceError::OutOfMemory);
-        };
-        let keys = vector_keys(alloc, &vector)?;
-        let Some(key) = keys.get(0) else {
-            return Err(PlaceError::OutOfMemory);
-        };
-        keys_are_one();
-        put_parts(alloc, frames, pass, key.as_slice(), load)?;
+        let key = key_with(alloc, k, load.letters)?;
+        put_parts(alloc, frames, pass, &key, load)?;
     }
     Ok(())
 }

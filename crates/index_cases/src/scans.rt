@@ -1,5 +1,5 @@
 // Scans over the pages that a store left.
-ghost use Rattle.std.specs.Prelude.{◌≡◌, [], None, OnOk};
+ghost use Rattle.std.specs.Prelude.{◌≡◌, [], OnOk};
 ghost use Rattle.buffer_frames.specs.Passes.{IsPassOf, IsHolding};
 ghost use Rattle.gin_opclass.specs.Class.{meaning};
 ghost use Rattle.gin_scan.specs.Scanning.{IsScanning, Scanning, IsAtEnd};
@@ -7,14 +7,15 @@ ghost use Rattle.gin_scan.specs.TextScans.{IsFor};
 ghost use Rattle.ts_match.specs.Class.{asked_of, reads_all};
 ghost use Rattle.ts_match.specs.Judging.{judged};
 ghost use Rattle.ts_match.specs.Meaning.{Holds};
+ghost use Rattle.index_cases.specs.Turns.{AreFresh};
 
-use crate::cleaning::print_tree;
+use crate::pages::{opened, synced};
 use crate::rows::Row;
-use anyhow::{Result, bail};
+use crate::{print_counts, refused};
+use anyhow::Result;
 use bench_base::{Bench, Figure};
 use buffer_frames::{FrameError, Frames, Pass};
 use disk_trait::{Disk, MemoryDisk};
-use engine::WIDEST;
 use gin_scan::{Found, Scan};
 use std::alloc::Global;
 use std::result;
@@ -51,106 +52,63 @@ fn scan<D: Disk>(
     pass: &mut Pass,
     query: &TsQuery,
 ) -> result::Result<(u64, Found), FrameError>
-    requires pass { IsPassOf frames.old pass.old }
-    requires none { pass.old.pin ≡ None }
-    requires held { pass.old.held ≡ 0 }
+    requires fresh { AreFresh frames.old pass.old }
 {
     let mut scan = Scan::begin(alloc, frames, pass, query)?;
-    let steps = step_all(alloc, frames, pass, &mut scan)?;
-    Ok((steps, scan.finish(frames, pass)))
-}
-
-/// What is counted of a scan.
-#[derive(Clone, Copy)]
-struct Counts {
-    /// How many documents it finds.
-    names: u64,
-    /// How many the judge did not leave out.
-    candidates: u64,
-    /// How many heads it read.
-    heads: u64,
-    /// How many pages it read.
-    pages: u64,
-    /// In how many steps.
-    steps: u64,
-}
-
-/// What is counted of a scan for a query.
-fn count<D: Disk>(
-    alloc: Global,
-    frames: &mut Frames<D>,
-    pass: &mut Pass,
-    words: &str,
-) -> Option<Counts>
-    requires pass { IsPassOf frames.old pass.old }
-    requires none { pass.old.pin ≡ None }
-    requires held { pass.old.held ≡ 0 }
-{
-    let query = TsQuery::parse(alloc, words).ok()?;
-    let (steps, found) = scan(alloc, frames, pass, &query).ok()?;
-    Some(Counts {
-        names: found.names.len() as u64,
-        candidates: found.candidates,
-        heads: found.heads_read,
-        pages: found.pages_read,
-        steps,
-    })
-}
-
-/// Prints what is counted of a scan.
-fn print_scan<D: Disk>(
-    bench: &Bench<'_>,
-    frames: &mut Frames<D>,
-    pass: &mut Pass,
-    row: Row<'_>,
-) -> Result<()>
-    requires pass { IsPassOf frames.old pass.old }
-    requires none { pass.old.pin ≡ None }
-    requires held { pass.old.held ≡ 0 }
-{
-    let Some(counts) = count(bench.alloc(), frames, pass, row.words) else {
-        bail!("a scan is refused");
-    };
-    bench.count(counts.names, row.title)?;
-    bench.count(counts.candidates, "candidates")?;
-    bench.count(counts.heads, "heads read")?;
-    bench.count(counts.pages, "pages read")?;
-    bench.count(counts.steps, "steps")
-}
-
-/// The page that a scan for a query calls bad.
-fn bad_page<D: Disk>(
-    alloc: Global,
-    frames: &mut Frames<D>,
-    pass: &mut Pass,
-    words: &str,
-) -> Option<u32>
-    requires pass { IsPassOf frames.old pass.old }
-    requires none { pass.old.pin ≡ None }
-    requires held { pass.old.held ≡ 0 }
-{
-    let query = TsQuery::parse(alloc, words).ok()?;
-    match scan(alloc, frames, pass, &query) {
-        Err(FrameError::BadPage { page }) => Some(page),
-        _ => None,
+    match step_all(alloc, frames, pass, &mut scan) {
+        Ok(steps) => Ok((steps, scan.finish(frames, pass))),
+        Err(error) => {
+            drop(scan);
+            Err(error)
+        }
     }
 }
 
-/// Prints which page a scan calls bad.
-fn print_bad<D: Disk>(
-    bench: &Bench<'_>,
-    frames: &mut Frames<D>,
-    pass: &mut Pass,
-    row: Row<'_>,
-) -> Result<()>
-    requires pass { IsPassOf frames.old pass.old }
-    requires none { pass.old.pin ≡ None }
-    requires held { pass.old.held ≡ 0 }
-{
-    let Some(page) = bad_page(bench.alloc(), frames, pass, row.words) else {
-        bail!("no page is called bad");
+/// The same over what is synced of a device.
+pub(crate) fn scan_on(
+    alloc: Global,
+    disk: &MemoryDisk,
+    query: &TsQuery,
+) -> result::Result<(u64, Found), FrameError> {
+    let image = synced(alloc, disk)?;
+    match opened(alloc, image, "") {
+        Ok((mut frames, mut pass)) => {
+            let scanned = scan(alloc, &mut frames, &mut pass, query);
+            drop(frames);
+            scanned
+        }
+        Err(unopened) => {
+            drop(unopened);
+            Err(FrameError::OutOfMemory)
+        }
+    }
+}
+
+/// Prints how many documents a scan finds, how many the judge did not leave out, how many heads and pages it read, and
+/// in how many steps.
+fn print_found(bench: &Bench<'_>, title: &str, steps: u64, found: &Found) -> Result<()> {
+    let counts = [
+        (found.names.len() as u64, title),
+        (found.candidates, "candidates"),
+        (found.heads_read, "heads read"),
+        (found.pages_read, "pages read"),
+        (steps, "steps"),
+    ];
+    print_counts(bench, &counts)
+}
+
+/// Prints what is counted of a scan for the query of a row, or which page it calls bad.
+pub(crate) fn run(bench: &Bench<'_>, disk: &MemoryDisk, row: Row<'_>) -> Result<()> {
+    let Ok(query) = TsQuery::parse(bench.alloc(), row.words) else {
+        return Err(refused("no query"));
     };
-    bench.count(u64::from(page), row.title)
+    let scanned = scan_on(bench.alloc(), disk, &query);
+    drop(query);
+    match scanned {
+        Ok((steps, found)) => print_found(bench, row.title, steps, &found),
+        Err(FrameError::BadPage { page }) => bench.count(u64::from(page), row.title),
+        Err(_) => Err(refused("a scan is refused")),
+    }
 }
 
 /// Holds a page so often, and gives it back.
@@ -181,45 +139,30 @@ fn print_holds<D: Disk>(
     requires held { pass.old.held ≡ 0 }
     requires idle { IsHolding D.Disk frames.old pass.old [] }
 {
-    let times = row.times(bench.is_timed());
     let start = bench.start()?;
-    if hold_often(frames, pass, times).is_err() {
-        bail!("a page is not held");
+    if hold_often(frames, pass, row.times).is_err() {
+        return Err(refused("a page is not held"));
     }
-    bench.report(start, times as usize, row.title, Figure::Each(times))
+    bench.report(
+        start,
+        row.times as usize,
+        row.title,
+        Figure::Each(row.times),
+    )
 }
 
-/// Does what a row says over pages.
-fn work_on<D: Disk>(
-    bench: &Bench<'_>,
-    frames: &mut Frames<D>,
-    pass: &mut Pass,
-    row: Row<'_>,
-) -> Result<()>
-    requires pass { IsPassOf frames.old pass.old }
-    requires none { pass.old.pin ≡ None }
-    requires held { pass.old.held ≡ 0 }
-    requires idle { IsHolding D.Disk frames.old pass.old [] }
-{
-    match row.verb {
-        "hold" => print_holds(bench, frames, pass, row),
-        "bad" => print_bad(bench, frames, pass, row),
-        "tree" => print_tree(bench, frames, pass, row),
-        _ => print_scan(bench, frames, pass, row),
+/// The same with the pages of what is synced of a device.
+pub(crate) fn run_holds(bench: &Bench<'_>, disk: &MemoryDisk, row: Row<'_>) -> Result<()> {
+    let image = synced(bench.alloc(), disk)?;
+    match opened(bench.alloc(), image, "") {
+        Ok((mut frames, mut pass)) => {
+            let printed = print_holds(bench, &mut frames, &mut pass, row);
+            drop(frames);
+            printed
+        }
+        Err(unopened) => {
+            drop(unopened);
+            Err(refused("pages are not opened"))
+        }
     }
-}
-
-/// The same over the pages of a device.
-fn run_over(bench: &Bench<'_>, disk: MemoryDisk, row: Row<'_>) -> Result<()> {
-    let (mut frames, mut pass) = match Frames::open(bench.alloc(), disk, &WIDEST) {
-        Ok(opened) => opened,
-        Err(_) => bail!("pages are not opened"),
-    };
-    work_on(bench, &mut frames, &mut pass, row)
-}
-
-/// The same over the pages of what is synced of a device.
-pub(crate) fn run(bench: &Bench<'_>, disk: &MemoryDisk, row: Row<'_>) -> Result<()> {
-    let image = disk.image(bench.alloc(), disk.calls(), 0)?;
-    run_over(bench, image, row)
 }

@@ -3,8 +3,10 @@ ghost use Rattle.std.specs.Prelude.{◌≡◌, IfOk};
 ghost use Rattle.engine.specs.Answers.{IsSession};
 
 use crate::documents::next_document;
+use crate::pages::synced;
 use crate::rows::{Row, number, word};
-use anyhow::{Result, bail};
+use crate::{exchange, given, refused};
+use anyhow::Result;
 use bench_base::{Bench, Figure};
 use disk_trait::MemoryDisk;
 use engine::{Db, DbError, Name, OpenFault, Pass, Unopened, WIDEST};
@@ -13,19 +15,20 @@ use std::result;
 use ts_query::TsQuery;
 use ts_vector::TsVector;
 
-/// Inserts a document: its name.
-fn insert(
-    store: &mut Db<MemoryDisk>,
-    pass: &mut Pass,
-    vector: &TsVector,
-) -> result::Result<Name, DbError>
+/// Inserts a document: its serial.
+fn insert(store: &mut Db<MemoryDisk>, pass: &mut Pass, vector: TsVector) -> Option<u64>
     requires session { IsSession store.old pass.old }
     ensures session { IsSession store.new pass.new }
     ensures room { pass.new.room ≡ pass.old.room }
 {
-    match store.insert(pass, vector) {
-        Err(DbError::OutOfMemory) => store.insert(pass, vector),
+    let stored = match store.insert(pass, &vector) {
+        Err(DbError::OutOfMemory) => store.insert(pass, &vector),
         stored => stored,
+    };
+    drop(vector);
+    match stored {
+        Ok(name) => Some(name.serial),
+        Err(_) => None,
     }
 }
 
@@ -45,60 +48,45 @@ fn insert_all(
     let mut drawn = 0;
     let mut last = 0;
     for _ in 0..times {
-        let text = next_document(alloc, words, &mut drawn).ok()?;
-        let vector = TsVector::parse(alloc, text.as_str()).ok()?;
-        last = insert(store, pass, &vector).ok()?.serial;
+        let vector = next_document(alloc, words, &mut drawn)?;
+        last = insert(store, pass, vector)?;
     }
     Some((times as usize, last))
 }
 
 /// Searches for documents: their names.
-fn search(
-    store: &mut Db<MemoryDisk>,
-    pass: &mut Pass,
-    query: &TsQuery,
-) -> result::Result<Vec<Name>, DbError>
+fn search(store: &mut Db<MemoryDisk>, pass: &mut Pass, query: &TsQuery) -> Option<Vec<Name>>
     requires session { IsSession store.old pass.old }
     ensures session { IsSession store.new pass.new }
     ensures room { pass.new.room ≡ pass.old.room }
 {
-    match store.search(pass, query) {
+    let found = match store.search(pass, query) {
         Err(DbError::OutOfMemory) => store.search(pass, query),
         found => found,
+    };
+    match found {
+        Ok(names) => Some(names),
+        Err(_) => None,
     }
 }
 
-/// Searches so often: how many documents are found, and the serial of the last one.
+/// Searches so often: how many documents are found, and the name of the last one.
 fn search_often(
     store: &mut Db<MemoryDisk>,
     pass: &mut Pass,
     query: &TsQuery,
     times: u32,
-) -> Option<(usize, u64)>
+) -> Option<(usize, Option<Name>)>
     requires session { IsSession store.old pass.old }
     ensures session { IsSession store.new pass.new }
     ensures room { pass.new.room ≡ pass.old.room }
 {
-    let mut found = (0, 0);
+    let mut found = (0, None);
     for _ in 0..times {
-        let names = search(store, pass, query).ok()?;
-        found = match names.last() {
-            Some(name) => (names.len(), name.serial),
-            None => (0, 0),
-        };
+        let names = search(store, pass, query)?;
+        found = (names.len(), names.last().copied());
     }
     Some(found)
-}
-
-/// The slot of the last document that is found, and its serial.
-fn last_slot(store: &mut Db<MemoryDisk>, pass: &mut Pass, query: &TsQuery) -> Option<(usize, u64)>
-    requires session { IsSession store.old pass.old }
-    ensures session { IsSession store.new pass.new }
-    ensures room { pass.new.room ≡ pass.old.room }
-{
-    let names = search(store, pass, query).ok()?;
-    let name = names.last()?;
-    Some((usize::from(name.slot), name.serial))
 }
 
 /// Deletes a document.
@@ -138,21 +126,37 @@ fn delete_each(
     Some(deleted)
 }
 
-/// Deletes each so many-th document that satisfies the query of a row: how many, and the serial of the last one.
+/// Deletes each so many-th document that satisfies a query: how many, and the serial of the last one.
 fn delete_some(
-    alloc: Global,
     store: &mut Db<MemoryDisk>,
     pass: &mut Pass,
-    words: &str,
+    query: &TsQuery,
+    step: &str,
 ) -> Option<(usize, u64)>
     requires session { IsSession store.old pass.old }
     ensures session { IsSession store.new pass.new }
     ensures room { pass.new.room ≡ pass.old.room }
 {
-    let (step, text) = word(words);
-    let query = TsQuery::parse(alloc, text).ok()?;
-    let names = search(store, pass, &query).ok()?;
+    let names = search(store, pass, query)?;
     delete_each(store, pass, &names, number(step))
+}
+
+/// Searches so often: how many documents are found, or the slot of the last one, and its serial.
+fn look(
+    store: &mut Db<MemoryDisk>,
+    pass: &mut Pass,
+    query: &TsQuery,
+    row: Row<'_>,
+) -> Option<(usize, u64)>
+    requires session { IsSession store.old pass.old }
+    ensures session { IsSession store.new pass.new }
+    ensures room { pass.new.room ≡ pass.old.room }
+{
+    match search_often(store, pass, query, row.times)? {
+        (_, Some(name)) if row.verb == "slot" => Some((usize::from(name.slot), name.serial)),
+        (count, Some(name)) => Some((count, name.serial)),
+        (count, None) => Some((count, 0)),
+    }
 }
 
 /// Inserts, deletes or searches so often, or asks for a slot, by the words of a row.
@@ -161,23 +165,21 @@ fn call(
     store: &mut Db<MemoryDisk>,
     pass: &mut Pass,
     row: Row<'_>,
-    times: u32,
 ) -> Option<(usize, u64)>
     requires session { IsSession store.old pass.old }
     ensures session { IsSession store.new pass.new }
     ensures room { pass.new.room ≡ pass.old.room }
 {
     if row.verb == "insert" {
-        return insert_all(alloc, store, pass, row.words, times);
+        return insert_all(alloc, store, pass, row.words, row.times);
     }
     if row.verb == "delete" {
-        return delete_some(alloc, store, pass, row.words);
+        let (step, text) = word(row.words);
+        let query = TsQuery::parse(alloc, text).ok()?;
+        return delete_some(store, pass, &query, step);
     }
     let query = TsQuery::parse(alloc, row.words).ok()?;
-    if row.verb == "slot" {
-        return last_slot(store, pass, &query);
-    }
-    search_often(store, pass, &query, times)
+    look(store, pass, &query, row)
 }
 
 /// The same, and prints how many documents are stored, deleted or found, or the slot, and the serial of the last one.
@@ -191,12 +193,11 @@ fn work_on(
     ensures session { IsSession store.new pass.new }
     ensures room { pass.new.room ≡ pass.old.room }
 {
-    let times = row.times(bench.is_timed());
     let start = bench.start()?;
-    let Some((count, last)) = call(bench.alloc(), store, pass, row, times) else {
-        bail!("a call of the store is refused");
+    let Some((count, last)) = call(bench.alloc(), store, pass, row) else {
+        return Err(refused("a call of the store is refused"));
     };
-    bench.report(start, count, row.title, Figure::Each(times))?;
+    bench.report(start, count, row.title, Figure::Each(row.times))?;
     bench.count(last, "is the last serial")
 }
 
@@ -221,17 +222,18 @@ fn open(alloc: Global, disk: MemoryDisk) -> Opened
 
 /// Does what a row says with the store of a device: the device then.
 fn run_over(bench: &Bench<'_>, disk: MemoryDisk, row: Row<'_>) -> Result<MemoryDisk> {
-    let (mut store, mut pass) = match open(bench.alloc(), disk) {
-        Ok(opened) => opened,
-        Err(_) => bail!("a store is not opened"),
-    };
-    work_on(bench, &mut store, &mut pass, row)?;
-    Ok(store.close(pass))
+    match open(bench.alloc(), disk) {
+        Ok((mut store, mut pass)) => {
+            let done = work_on(bench, &mut store, &mut pass, row);
+            given(done, store.close(pass))
+        }
+        Err(unopened) => given(Err(refused("a store is not opened")), unopened.store),
+    }
 }
 
 /// The same with what is synced of a device, which is left as it is where the row is refused.
 pub(crate) fn run(bench: &Bench<'_>, disk: &mut MemoryDisk, row: Row<'_>) -> Result<()> {
-    let image = disk.image(bench.alloc(), disk.calls(), 0)?;
-    *disk = run_over(bench, image, row)?;
+    let image = synced(bench.alloc(), disk)?;
+    exchange(disk, run_over(bench, image.disk, row)?);
     Ok(())
 }

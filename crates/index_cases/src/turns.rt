@@ -1,19 +1,21 @@
 // A scan and a cleanup or a vacuum in turn, by two passes over one store.
-ghost use Rattle.std.specs.Prelude.{◌≡◌, OnOk, IfOk, IfSome, false};
+ghost use Rattle.std.specs.Prelude.{◌≡◌, OnOk, IfOk, false};
 ghost use Rattle.gin_scan.specs.Scanning.{IsAtEnd};
 ghost use Rattle.buffer_frames.specs.Passes.{IsPassOf};
 ghost use Rattle.index_cases.specs.Turns.{AreFresh, Scans, Keeps, MayKeep};
 
+use crate::pages::{opened, synced};
 use crate::rows::{Row, word};
-use crate::silent::Silent;
+use crate::scans::scan_on;
 use crate::upkeep::{Task, Upkeep};
-use anyhow::{Result, bail};
+use crate::{exchange, print_counts, refused};
+use anyhow::Result;
 use bench_base::Bench;
 use buffer_frames::{Frames, Pass};
 use disk_trait::{Disk, MemoryDisk};
-use engine::{Name, WIDEST};
 use gin_place::PlaceError;
 use gin_scan::Scan;
+use page_types::Name;
 use std::alloc::Global;
 use std::result;
 use ts_query::TsQuery;
@@ -42,55 +44,28 @@ impl Order {
     }
 }
 
-/// A scan and the work beside it, and how many steps were taken of each.
+/// What a scan and a task that take turns come to.
+#[derive(Clone, Copy)]
+struct Turns {
+    /// How many documents the scan finds.
+    found: usize,
+    /// Whether these are the documents that it finds alone.
+    same: bool,
+    /// How many steps the task took.
+    beside: u32,
+    /// How many items it found dead.
+    dead: usize,
+}
+
+/// A scan and the work beside it, and how many steps were taken of that.
 #[derive(Drop)]
 struct Pair<'a> {
     scan: Scan<'a>,
     upkeep: Upkeep,
-    /// The steps of the scan.
-    steps: u32,
-    /// Those of the work beside it.
     beside: u32,
 }
 
 impl<'a> Pair<'a> {
-    /// Takes a step of the work beside the scan.
-    fn keep_up<D: Disk>(
-        &mut self,
-        alloc: Global,
-        frames: &mut Frames<D>,
-        pass: &Pass,
-        other: &mut Pass,
-    ) -> result::Result<(), PlaceError>
-        requires scans { Scans D.Disk frames.old pass.now self.old.scan }
-        requires keeps { Keeps D.Disk frames.old other.old self.old.upkeep }
-        ensures scans { OnOk result (Scans D.Disk frames.new pass.now self.new.scan) }
-        ensures keeps { OnOk result (Keeps D.Disk frames.new other.new self.new.upkeep) }
-    {
-        self.upkeep.step(alloc, frames, other)?;
-        self.beside = self.beside.saturating_add(1);
-        Ok(())
-    }
-
-    /// Takes a step of the scan: false where that was its last.
-    fn scan_on<D: Disk>(
-        &mut self,
-        alloc: Global,
-        frames: &mut Frames<D>,
-        pass: &mut Pass,
-        other: &Pass,
-    ) -> result::Result<bool, PlaceError>
-        requires scans { Scans D.Disk frames.old pass.old self.old.scan }
-        requires keeps { Keeps D.Disk frames.old other.now self.old.upkeep }
-        ensures scans { OnOk result (Scans D.Disk frames.new pass.new self.new.scan) }
-        ensures keeps { OnOk result (Keeps D.Disk frames.new other.now self.new.upkeep) }
-        ensures end { IfOk result (λ more. more ≡ false → IsAtEnd self.new.scan.core) }
-    {
-        let more = self.scan.step(alloc, frames, pass)?;
-        self.steps = self.steps.saturating_add(1);
-        Ok(more)
-    }
-
     /// Takes a step of the work beside the scan, if it is its turn and it has more, or else of the scan: false where
     /// that was the scan's last.
     fn step<D: Disk>(
@@ -107,11 +82,14 @@ impl<'a> Pair<'a> {
         ensures keeps { OnOk result (Keeps D.Disk frames.new other.new self.new.upkeep) }
         ensures end { IfOk result (λ more. more ≡ false → IsAtEnd self.new.scan.core) }
     {
-        if is_others && !self.upkeep.is_done() {
-            self.keep_up(alloc, frames, pass, other)?;
+        let is_beside = is_others && !self.upkeep.is_done();
+        if is_beside {
+            self.upkeep.step(alloc, frames, other)?;
+            self.beside = self.beside.saturating_add(1);
             return Ok(true);
         }
-        self.scan_on(alloc, frames, pass, other)
+        let more = self.scan.step(alloc, frames, pass)?;
+        Ok(more)
     }
 
     /// Takes all steps of the scan in this order.
@@ -138,8 +116,14 @@ impl<'a> Pair<'a> {
         Err(PlaceError::OutOfMemory)
     }
 
-    /// Ends the scan: what it finds, how many steps were taken, and how many items the work beside it found dead.
-    fn close<D: Disk>(self, frames: &mut Frames<D>, pass: &mut Pass, other: &Pass) -> Turns
+    /// Ends the scan: what both come to, where the scan finds these documents alone.
+    fn close<D: Disk>(
+        self,
+        frames: &mut Frames<D>,
+        pass: &mut Pass,
+        other: &Pass,
+        alone: &[Name],
+    ) -> Turns
         requires scans { Scans D.Disk frames.old pass.old self.scan }
         requires keeps { Keeps D.Disk frames.old other.now self.upkeep }
         requires end { IsAtEnd self.scan.core }
@@ -150,14 +134,14 @@ impl<'a> Pair<'a> {
         let Pair {
             scan,
             upkeep,
-            steps,
             beside,
         } = self;
         let names = scan.finish(frames, pass).names;
         let dead = upkeep.dead.items().len();
+        drop(upkeep);
         Turns {
-            names,
-            steps,
+            found: names.len(),
+            same: names.as_slice() == alone,
             beside,
             dead,
         }
@@ -180,30 +164,24 @@ fn begin<'a, D: Disk>(
     let mut other = frames.split(pass);
     frames.claim_work(&mut other);
     let upkeep = Upkeep::begin(alloc, frames, &mut other, task)?;
-    let scan = Scan::begin(alloc, frames, pass, query)?;
-    let pair = Pair {
-        scan,
-        upkeep,
-        steps: 0,
-        beside: 0,
-    };
-    Ok((other, pair))
+    match Scan::begin(alloc, frames, pass, query) {
+        Ok(scan) => {
+            let pair = Pair {
+                scan,
+                upkeep,
+                beside: 0,
+            };
+            Ok((other, pair))
+        }
+        Err(error) => {
+            drop(upkeep);
+            Err(PlaceError::from(error))
+        }
+    }
 }
 
-/// What a scan finds that takes turns, and how many steps were taken.
-#[derive(Drop)]
-struct Turns {
-    /// The names.
-    names: Vec<Name>,
-    /// The steps of the scan.
-    steps: u32,
-    /// Those of the work beside it.
-    beside: u32,
-    /// How many items that work found dead.
-    dead: usize,
-}
-
-/// What a scan for a query finds that takes turns with a task. What they log is flushed then.
+/// What a scan for a query comes to that takes turns with a task, where it finds these documents alone. What they log
+/// is flushed then.
 fn take_turns<D: Disk>(
     alloc: Global,
     frames: &mut Frames<D>,
@@ -211,51 +189,60 @@ fn take_turns<D: Disk>(
     query: &TsQuery,
     task: Task,
     order: Order,
+    alone: &[Name],
 ) -> result::Result<Turns, PlaceError>
     requires silent { D.Disk.tells → ⊥ }
     requires fresh { AreFresh frames.old pass.old }
     ensures { OnOk result (pass.new.room ≡ 16) }
 {
     let (mut other, mut pair) = begin(alloc, frames, pass, query, task)?;
-    pair.go_on(alloc, frames, pass, &mut other, order)?;
-    let turns = pair.close(frames, pass, &other);
-    frames.join(pass, other);
-    frames.flush_log(pass)?;
-    Ok(turns)
-}
-
-/// The pages of a device, and their pass, as they are opened.
-fn fresh(alloc: Global, disk: Silent) -> Option<(Frames<Silent>, Pass)>
-    ensures { IfSome result (λ x. AreFresh x.0 x.1) }
-{
-    match Frames::open(alloc, disk, &WIDEST) {
-        Ok(opened) => Some(opened),
-        Err(_) => None,
+    match pair.go_on(alloc, frames, pass, &mut other, order) {
+        Ok(()) => {
+            let turns = pair.close(frames, pass, &other, alone);
+            frames.join(pass, other);
+            frames.flush_log(pass)?;
+            Ok(turns)
+        }
+        Err(error) => {
+            drop(pair);
+            Err(error)
+        }
     }
 }
 
-/// What such a scan finds over what is synced of a device, and the device as both leave it.
+/// The same over what is synced of a device, and the device as both leave it.
 fn turns_on(
     alloc: Global,
     disk: &MemoryDisk,
     query: &TsQuery,
     task: Task,
     order: Order,
+    alone: &[Name],
 ) -> Option<(Turns, MemoryDisk)> {
-    let image = disk.image(alloc, disk.calls(), 0).ok()?;
-    let (mut frames, mut pass) = fresh(alloc, Silent(image))?;
-    match take_turns(alloc, &mut frames, &mut pass, query, task, order) {
-        Ok(turns) => Some((turns, frames.close(pass).0)),
-        Err(_) => None,
+    let image = synced(alloc, disk).ok()?;
+    match opened(alloc, image, "") {
+        Ok((mut frames, mut pass)) => {
+            match take_turns(alloc, &mut frames, &mut pass, query, task, order, alone) {
+                Ok(turns) => Some((turns, frames.close(pass).disk)),
+                Err(_) => {
+                    drop(frames);
+                    None
+                }
+            }
+        }
+        Err(unopened) => {
+            drop(unopened);
+            None
+        }
     }
 }
 
 /// Counts of runs in which a scan and a task take turns.
-#[derive(Clone, Copy, Default)]
+#[derive(Clone, Copy)]
 struct Counts {
     /// The runs.
     runs: u64,
-    /// Those in which the scan finds other names than alone, or is refused.
+    /// Those in which the scan finds other documents than alone, or is refused.
     differ: u64,
     /// The most steps of the task.
     beside: u32,
@@ -265,14 +252,19 @@ struct Counts {
 
 impl Counts {
     /// One run more, which comes to this.
-    fn note(&mut self, turns: Option<(Turns, MemoryDisk)>, alone: &[Name]) {
+    fn note(&mut self, turns: Option<(Turns, MemoryDisk)>) {
         self.runs = self.runs.saturating_add(1);
-        match &turns {
-            Some((turns, _)) if turns.names.as_slice() == alone => {
+        let is_same = match turns {
+            Some((turns, left)) => {
+                drop(left);
                 self.beside = self.beside.max(turns.beside);
                 self.dead = self.dead.max(turns.dead);
+                turns.same
             }
-            _ => self.differ = self.differ.saturating_add(1),
+            None => false,
+        };
+        if !is_same {
+            self.differ = self.differ.saturating_add(1);
         }
     }
 
@@ -288,77 +280,87 @@ impl Counts {
     ) {
         for share in SHARES {
             let order = Order { lead, share };
-            self.note(turns_on(alloc, disk, query, task, order), alone);
+            self.note(turns_on(alloc, disk, query, task, order, alone));
         }
     }
 }
 
-/// What a scan for a query finds alone, and how many steps it takes.
-fn alone(alloc: Global, disk: &MemoryDisk, query: &TsQuery) -> Result<Turns> {
-    let order = Order {
-        lead: MOST_STEPS,
-        share: 0,
-    };
-    match turns_on(alloc, disk, query, Task::Vacuum, order) {
-        Some((turns, _)) => Ok(turns),
-        None => bail!("a scan is refused"),
-    }
-}
-
-/// How many names a scan for the query of some words finds alone, and what is counted of the runs in which it takes so
-/// many steps or fewer first, and then turns with the task of the first word.
+/// How many documents a scan for a query finds alone, and what is counted of the runs in which it takes so many steps
+/// or fewer first, and then turns with the task of a word.
 fn count_turns(
     alloc: Global,
     disk: &MemoryDisk,
-    words: &str,
+    query: &TsQuery,
+    word: &str,
     leads: u32,
-) -> Result<(usize, Counts)> {
-    let (name, text) = word(words);
-    let query = TsQuery::parse(alloc, text)?;
-    let alone = alone(alloc, disk, &query)?;
-    let task = Task::of(name, &alone.names);
-    let mut counts = Counts::default();
-    for lead in 0..alone.steps.min(leads) {
-        counts.note_shares(alloc, disk, &query, task, lead, &alone.names);
+) -> Option<(usize, Counts)> {
+    let (steps, found) = scan_on(alloc, disk, query).ok()?;
+    let task = Task::of(word, &found.names);
+    let mut counts = Counts {
+        runs: 0,
+        differ: 0,
+        beside: 0,
+        dead: 0,
+    };
+    let first = u32::try_from(steps).unwrap_or(u32::MAX).saturating_add(1);
+    for lead in 0..first.min(leads) {
+        counts.note_shares(alloc, disk, query, task, lead, &found.names);
     }
-    Ok((alone.names.len(), counts))
+    Some((found.names.len(), counts))
 }
 
-/// Prints how many names a scan for the query of a row finds, alone and in turn with the task of its first word: in how
-/// many runs, how many find other names, how many steps the task takes at most, and how many items it finds dead. The
-/// scan takes none, one or more steps alone first, each number below that of the row.
+/// Prints how many documents a scan for the query of a row finds, alone and in turn with the task of its first word: in
+/// how many runs, how many find other documents, how many steps the task takes at most, and how many items it finds
+/// dead. The scan takes none, one or more steps alone first, each number below that of the row.
 pub(crate) fn run(bench: &Bench<'_>, disk: &MemoryDisk, row: Row<'_>) -> Result<()> {
-    let leads = row.times(bench.is_timed());
-    let (names, counts) = count_turns(bench.alloc(), disk, row.words, leads)?;
-    bench.count(names as u64, row.title)?;
-    bench.count(counts.runs, "runs in turn")?;
-    bench.count(counts.differ, "of them find something else")?;
-    bench.count(u64::from(counts.beside), "steps beside the scan at most")?;
-    bench.count(counts.dead as u64, "items found dead at most")
+    let (name, text) = word(row.words);
+    let Ok(query) = TsQuery::parse(bench.alloc(), text) else {
+        return Err(refused("no query"));
+    };
+    let counted = count_turns(bench.alloc(), disk, &query, name, row.times);
+    drop(query);
+    let Some((names, counts)) = counted else {
+        return Err(refused("a scan is refused"));
+    };
+    let counts = [
+        (names as u64, row.title),
+        (counts.runs, "runs in turn"),
+        (counts.differ, "of them find something else"),
+        (u64::from(counts.beside), "steps beside the scan at most"),
+        (counts.dead as u64, "items found dead at most"),
+    ];
+    print_counts(bench, &counts)
 }
 
-/// How many names a scan for the query of some words finds whose steps come after the whole task of the first word, and
-/// how many items the task finds dead. The device is left as both leave it.
-fn after_task(alloc: Global, disk: &mut MemoryDisk, words: &str) -> Result<(usize, usize)> {
-    let (name, text) = word(words);
-    let query = TsQuery::parse(alloc, text)?;
-    let task = Task::of(name, &alone(alloc, disk, &query)?.names);
+/// What a scan for a query comes to whose steps come after the whole task of a word, and the device as both leave it.
+fn after_task(
+    alloc: Global,
+    disk: &MemoryDisk,
+    query: &TsQuery,
+    word: &str,
+) -> Option<(Turns, MemoryDisk)> {
+    let (_, found) = scan_on(alloc, disk, query).ok()?;
+    let task = Task::of(word, &found.names);
     let order = Order {
         lead: 0,
         share: MOST_STEPS,
     };
-    match turns_on(alloc, disk, &query, task, order) {
-        Some((turns, left)) => {
-            *disk = left;
-            Ok((turns.names.len(), turns.dead))
-        }
-        None => bail!("a scan is refused"),
-    }
+    turns_on(alloc, disk, query, task, order, &found.names)
 }
 
-/// Prints both, for the words of a row.
+/// Prints how many documents such a scan finds for the query of a row, and how many items the task of its first word
+/// finds dead. The device is left as both leave it.
 pub(crate) fn run_once(bench: &Bench<'_>, disk: &mut MemoryDisk, row: Row<'_>) -> Result<()> {
-    let (names, dead) = after_task(bench.alloc(), disk, row.words)?;
-    bench.count(names as u64, row.title)?;
-    bench.count(dead as u64, "items found dead")
+    let (name, text) = word(row.words);
+    let Ok(query) = TsQuery::parse(bench.alloc(), text) else {
+        return Err(refused("no query"));
+    };
+    let both = after_task(bench.alloc(), disk, &query, name);
+    drop(query);
+    let Some((turns, left)) = both else {
+        return Err(refused("a scan is refused"));
+    };
+    exchange(disk, left);
+    bench.count(turns.found as u64, row.title)?;
+    bench.count(turns.dead as u64, "items found dead")
 }

@@ -5,14 +5,14 @@ ghost use Rattle.index_cases.specs.Turns.{MayKeep, IsAt, Keeps, Grows, LetScan};
 use crate::deleting::delete;
 use buffer_frames::{Frames, Pass};
 use disk_trait::Disk;
-use engine::Name;
 use gin_cleanup::Cleanup;
 use gin_place::PlaceError;
 use gin_scan::scans_go_on;
 use gin_vacuum::{Freeing, Sweeping, find_dead, without_rows};
+use page_types::Name;
 use posting_code::ItemSet;
 use std::alloc::Global;
-use std::result;
+use std::{mem, result};
 use ts_match::MatchWork;
 use ts_query::TsQuery;
 
@@ -200,7 +200,8 @@ impl Upkeep {
                 Ok(false)
             }
             Stage::Seeking => {
-                self.dead = find_dead(alloc, frames, pass)?;
+                let dead = find_dead(alloc, frames, pass)?;
+                drop(mem::replace(&mut self.dead, dead));
                 Ok(false)
             }
             Stage::Cleaning { cleanup } => cleanup.step(alloc, frames, pass),
@@ -222,7 +223,8 @@ impl Upkeep {
         ensures scans { OnOk result (LetScan D.Disk frames.old frames.new) }
     {
         let part = self.next();
-        self.stage = begun(alloc, frames, pass, part)?;
+        let stage = begun(alloc, frames, pass, part)?;
+        drop(mem::replace(&mut self.stage, stage));
         Ok(())
     }
 

@@ -2,7 +2,7 @@
 ghost use Rattle.index_cases.specs.Working.{Works};
 
 use crate::cleaning::clean;
-use crate::silent::Silent;
+use crate::pages::Silent;
 use buffer_frames::{Frames, Pass};
 use gin_place::PlaceError;
 use gin_vacuum::{find_dead, free_slots, sweep, without_rows};

@@ -1,62 +1,17 @@
--- The pass keeps its right, and the cleanup goes on.
-use Rattle.std.proofs.Common.{◌∙◌, ℕ, Bool}
-use Rattle.std.specs.Prelude.{Result}
-use Rattle.disk_trait.specs.declared.device.Disk.{Ghosts as Disk}
-use Rattle.buffer_frames.specs.Frames.{FramesValue}
-use Rattle.buffer_frames.specs.declared.pass.Pass.{Pass}
-use Rattle.gin_place.specs.declared.error.PlaceError.{PlaceError}
-use Rattle.gin_cleanup.specs.Going.{HasCleaned}
-use Rattle.gin_cleanup.specs.declared.cleanup.Cleanup.{Cleanup}
-use Rattle.index_cases.specs.Working.{Works}
+-- The pass keeps its right where the cleanup begins.
+use Rattle.std.proofs.Common.{◌∙◌}
 use Rattle.index_cases.proofs.Rights.{right_stays}
 use Rattle.index_cases.proofs.cleaning.clean.Goals as goal
 
--- after a step it works still
-works_on : {D : Type 0} (device : Disk D) (f : FramesValue D) (p : Pass) (f' : FramesValue D) (p' : Pass) (from : ℕ)
-    (old new : Cleanup) (r : Result Bool PlaceError) → Works f p 16 → HasCleaned device f p f' p' from old new r
-    → Works f' p' 16
-works_on device f p f' p' from old new r w h = record {
-  is_pass = h.works.2.is_pass;
-  right = right_stays p p' w.right h.works.2.work h.works.2.rises.seen;
-  none = h.none_held;
-  room_is = h.works.2.room ∙ w.room_is;
-}
-
-pub loop-init : goal.loop-init
-loop-init g c =
+pub step_all-done-requires-clause-working : goal.step_all-done-requires-clause-working
+step_all-done-requires-clause-working g c =
     let works = c.begin.ensures.reads.works in
     record {
-      working = record {
-        is_pass = works.is_pass;
-        right = right_stays c.args.pass.now c.begin.new.pass c.requires.working.right works.work works.rises.seen;
-        none = c.begin.ensures.none_held;
-        room_is = works.room ∙ c.requires.working.room_is;
-      };
-      cleaning = (c.in_ok-cleanup.ensures.cleaning.0, c.in_ok-cleanup.ensures.cleaning.2);
+      is_pass = works.is_pass;
+      right = right_stays c.args.pass.now c.begin.new.pass c.requires.working.right works.work works.rises.seen;
+      none = c.begin.ensures.none_held;
+      room_is = works.room ∙ c.requires.working.room_is;
     }
 
-pub loop-preserved : goal.loop-preserved
-loop-preserved g c =
-    let w = c.loop.invariant in
-    let h = c.step.ensures w.cleaning.0 w.cleaning.1 in
-    record {
-      working = works_on g.D.Disk c.loop.frames c.loop.pass c.step.new.frames c.step.new.pass w.cleaning.0
-          c.loop.cleanup c.step.new.self c.step.result w.working h;
-      cleaning = (w.cleaning.0, h.cleaning);
-    }
-
-pub returns-in_err-more : goal.returns-in_err-more
-returns-in_err-more g c =
-    let w = c.loop.invariant in
-    record {
-      working = works_on g.D.Disk c.loop.frames c.loop.pass c.step.new.frames c.step.new.pass w.cleaning.0
-          c.loop.cleanup c.step.new.self c.step.result w.working (c.step.ensures w.cleaning.0 w.cleaning.1);
-    }
-
-pub returns-then-not-more : goal.returns-then-not-more
-returns-then-not-more g c =
-    let w = c.loop.invariant in
-    record {
-      working = works_on g.D.Disk c.loop.frames c.loop.pass c.step.new.frames c.step.new.pass w.cleaning.0
-          c.loop.cleanup c.step.new.self c.step.result w.working (c.step.ensures w.cleaning.0 w.cleaning.1);
-    }
+pub step_all-done-requires-clause-cleaning : goal.step_all-done-requires-clause-cleaning
+step_all-done-requires-clause-cleaning g c = (c.in_ok-cleanup.ensures.cleaning.0, c.in_ok-cleanup.ensures.cleaning.2)

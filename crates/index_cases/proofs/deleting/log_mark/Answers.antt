@@ -64,7 +64,7 @@ pub returns-in_ok-log_step-in-Ok-clause-scans : goal.returns-in_ok-log_step-in-O
 returns-in_ok-log_step-in-Ok-clause-scans g c = λ p s was.
     let h = c.hold.ensures in
     let e = c.log_step.ensures in
-    let_scan g.D.Disk c.hold.new.self c.log_step.new.self _ c.scans_go_on.ensures c.in_ok-log_step-in-Ok.ensures.added e.pins
-    e.runs_on.flushed p s
+    let_scan g.D.Disk c.hold.new.self c.log_step.new.self _ c.scans_go_on.ensures
+    c.in_ok-log_step-in-Ok.ensures.added e.pins e.runs_on.flushed p s
     (let_scan g.D.Disk c.args.frames.now c.hold.new.self [] c.scans_go_on.ensures h.added h.pins h.runs_on.flushed p s
     was)

@@ -33,21 +33,21 @@ begin-requires-2-clause-held g c =
     (part_of c.args.frames.now c.args.pass.now c.split-other.new.pass c.requires.fresh.whole
     c.split-other.ensures.room.0).held
 
-pub returns-clause-scans : goal.returns-clause-scans
-returns-clause-scans g c =
+pub returns-in-Ok-clause-scans : goal.returns-in-Ok-clause-scans
+returns-in-Ok-clause-scans g c =
     let part = part_of c.args.frames.now c.args.pass.now c.split-other.new.pass c.requires.fresh.whole
     c.split-other.ensures.room.0 in
-    let e = c.in_ok-scan.ensures in
+    let e = c.in-Ok.ensures in
     let keeps = c.begin-2.ensures.reads.keeps in
-    scans_begun g.D.Disk c.begin-2.new.frames c.begin-2.new.pass c.args.query.now c.in_ok-scan.scan e.scanning e.query
+    scans_begun g.D.Disk c.begin-2.new.frames c.begin-2.new.pass c.args.query.now c.in-Ok.scan e.scanning e.query
     e.walk (keeps.xid ∙ part.xid, keeps.work ∙ part.work)
     (let room = ap (λ (x : Pass). x.room) c.requires.fresh.whole in
     omega (arith, keeps.room, c.split-other.ensures.room.1, room))
 
-pub returns-clause-keeps : goal.returns-clause-keeps
-returns-clause-keeps g c =
+pub returns-in-Ok-clause-keeps : goal.returns-in-Ok-clause-keeps
+returns-in-Ok-clause-keeps g c =
     task_begins g.D.Disk c.args.frames.now c.claim_work.new.self c.begin.new.frames c.begin-2.new.frames
     c.args.pass.now c.split-other.new.pass c.begin-2.new.pass c.split-other.result c.claim_work.new.pass
-    c.begin.new.pass c.in_ok-scan.scan.core.snapshot c.in_ok-upkeep.upkeep c.requires.fresh
+    c.begin.new.pass c.in-Ok.scan.core.snapshot c.in_ok-upkeep.upkeep c.requires.fresh
     c.claim_work.ensures.claimed c.in_ok-upkeep.ensures.grows c.in_ok-upkeep.ensures.keeps
-    c.in_ok-scan.ensures.pinned c.begin-2.ensures.reads
+    c.in-Ok.ensures.pinned c.begin-2.ensures.reads
