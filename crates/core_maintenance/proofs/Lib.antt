@@ -3,17 +3,17 @@ pub mod Right
 pub mod Ways
 pub mod Found
 pub mod FreshRows
-mod Moves
-mod Serving
+pub mod Moves
+pub mod Serving
 mod AddedPairs
-mod Pairs
-mod Shifts
-mod Lists
+pub mod Pairs
+pub mod Shifts
+pub mod Lists
 mod Heights
-mod WaysLead
+pub mod WaysLead
 mod FreshSteps
 mod WorkedMoves
-mod TreeSteps
-mod NamesStay
-mod TreePages
+pub mod TreeSteps
+pub mod NamesStay
+pub mod TreePages
 mod WorkedTreeSteps
