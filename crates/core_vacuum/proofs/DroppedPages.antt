@@ -91,6 +91,45 @@ one_then head page right b c d t u (GoesOn.private x e p q r) (GoesOn.overflow y
     absurd (not_both y x b p' p)
 one_then head page right b c d t u (GoesOn.private x e p q r) (GoesOn.private y f p' q' r') = r ∙ sym r'
 
+same_gone : (g h : Gone) → body.Deleted g ≡ body.Deleted h → g ≡ h
+same_gone g h e = cc
+
+same_part : (a b : List ℕ) → body.Overflow a ≡ body.Overflow b → a ≡ b
+same_part a b e = cc
+
+gone_part : (a b : List ℕ) → gone.Overflow a ≡ gone.Overflow b → a ≡ b
+gone_part a b e = cc
+
+same_rows : (a b : List Row) → body.Pending a ≡ body.Pending b → a ≡ b
+same_rows a b e = cc
+
+gone_rows : (a b : List Row) → gone.Pending a ≡ gone.Pending b → a ≡ b
+gone_rows a b e = cc
+
+-- the chain that the page is of, and what it keeps
+module _ (r : Record) (page : ℕ) (was new : Page) (head then : Head) (g : Gone) (is : new.body ≡ body.Deleted g)
+    (w : FirstGone r page was new head then) where
+  content_is : w.content ≡ g
+  content_is = same_gone w.content g (sym (ap (λ (x : Page). x.body) w.after) ∙ is)
+
+  pub part_back : (part kept : List ℕ) → was.body ≡ body.Overflow part → g ≡ gone.Overflow kept
+      → (head.overflow ≡ page) × (part ≡ kept)
+  part_back part kept b c = go (goes_on head page was.right was.body w.content then w.dropped)
+    where
+      go : GoesOn head page was.right was.body w.content then → (head.overflow ≡ page) × (part ≡ kept)
+      go (GoesOn.overflow x e p q t) =
+          (e, same_part part x (sym b ∙ p) ∙ gone_part x kept (sym q ∙ content_is ∙ c))
+      go (GoesOn.private x e p q t) = absurd (not_both part x was.body b p)
+
+  pub rows_back : (rows kept : List Row) → was.body ≡ body.Pending rows → g ≡ gone.Pending kept
+      → (head.private ≡ page) × (kept ≡ rows)
+  rows_back rows kept b c = go (goes_on head page was.right was.body w.content then w.dropped)
+    where
+      go : GoesOn head page was.right was.body w.content then → (head.private ≡ page) × (kept ≡ rows)
+      go (GoesOn.overflow x e p q t) = absurd (not_both x rows was.body p b)
+      go (GoesOn.private x e p q t) =
+          (e, gone_rows kept x (sym c ∙ sym content_is ∙ q) ∙ same_rows x rows (sym p ∙ b))
+
 pub same_then : (r : Record) (page : ℕ) (was new : Page) (head t u : Head) → FirstGone r page was new head t
     → FirstGone r page was new head u → t ≡ u
 same_then r page was new head t u a b =

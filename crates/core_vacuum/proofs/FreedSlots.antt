@@ -142,6 +142,38 @@ one_changed [] n = absurd (omega (arith, n))
 one_changed (c ∷ []) n = (c.page, refl)
 one_changed (c ∷ d ∷ cs) n = absurd (omega (arith, n))
 
+pub length_pages : (cs : List Change) → length (pages_of cs) ≡ length cs
+length_pages [] = refl
+length_pages (c ∷ cs) = ap suc (length_pages cs)
+
+pub one_change : (cs : List Change) (p : ℕ) → pages_of cs ≡ p ∷ [] → length cs ≡ 1
+one_change cs p e = sym (length_pages cs) ∙ ap length e
+
+-- the two pages that a record changes, of which this is the first
+pub second_told : (first : ℕ) (ds cs : List Change) (x y : Change) → ds ≡ cs → length ds ≡ 2
+    → (get_or ds 0 x).page ≡ first → pages_of cs ≡ first ∷ (get_or ds 1 y).page ∷ []
+second_told first ds cs x y same n e =
+    subst (λ (zs : List Change). pages_of zs ≡ first ∷ (get_or ds 1 y).page ∷ []) same (go ds n e)
+  where
+    go : (zs : List Change) → length zs ≡ 2 → (get_or zs 0 x).page ≡ first
+        → pages_of zs ≡ first ∷ (get_or zs 1 y).page ∷ []
+    go [] n e = absurd (omega (arith, n))
+    go (c ∷ []) n e = absurd (omega (arith, n))
+    go (c ∷ d ∷ []) n e = ap (λ (p : ℕ). p ∷ d.page ∷ []) e
+    go (c ∷ d ∷ b ∷ zs) n e = absurd (omega (arith, n))
+
+pub two_changes : (first p : ℕ) (ds cs : List Change) → ds ≡ cs → pages_of cs ≡ first ∷ p ∷ [] → length ds ≡ 2
+two_changes first p ds cs same e = ap length same ∙ sym (length_pages cs) ∙ ap length e
+
+pub first_of_two : (first p : ℕ) (ds cs : List Change) (x : Change) → ds ≡ cs → pages_of cs ≡ first ∷ p ∷ []
+    → (get_or ds 0 x).page ≡ first
+first_of_two first p ds cs x same e =
+    ap (λ (zs : List Change). (get_or zs 0 x).page) same ∙ go cs e
+  where
+    go : (zs : List Change) → pages_of zs ≡ first ∷ p ∷ [] → (get_or zs 0 x).page ≡ first
+    go [] f = absurd cc
+    go (c ∷ zs) f = ap (λ (qs : List ℕ). get_or qs 0 0) f
+
 pub one_back : (xs : List Page) (x y : Page) → xs ≡ y ∷ [] → x ≡ get_or xs 0 x → y ≡ x
 one_back xs x y e is = sym (is ∙ ap (λ (zs : List Page). get_or zs 0 x) e)
 

@@ -39,6 +39,9 @@ same_roots a b e = cc
 no_root : (a : List ℕ) (b : ℕ) → Inline a ≡ Root b → ⊥
 no_root a b e = cc
 
+pub list_of : (e : Entry) (a : List ℕ) → IsEntry e → e.postings ≡ Inline a → IsItemList a
+list_of e a is p = (subst ArePostings p is.postings).1
+
 among_itself : (a b : List ℕ) → a ≡ b → AreAmong b a
 among_itself a b e = record { each = λ i w. subst (λ (l : List ℕ). In i (items_of l)) (sym e) w }
 
@@ -82,6 +85,11 @@ there (y ∷ xs) (suc k) x e = omega (arith, there xs k x e)
 
 some_one : (e f : Entry) → Some e ≡ Some f → e ≡ f
 some_one e f p = cc
+
+pub is_entry : (es : List Entry) (k : ℕ) (e : Entry) → AllByRecursion IsEntry es → slice_get es k ≡ Some e → IsEntry e
+is_entry [] k e all at = absurd cc
+is_entry (x ∷ es) zero e all at = subst IsEntry (some_one x e at) all.0
+is_entry (x ∷ es) (suc k) e all at = is_entry es k e all.1 at
 
 same_entries : (old new : List Entry) → length new ≡ length old
     → ((k : ℕ) → k < length old → slice_get new k ≡ slice_get old k) → new ≡ old
@@ -374,6 +382,10 @@ one_page r old new before after e n one one' old_is new_is = record {
   before_is = one_told before old one old_is;
   after_is = one_told after new one' new_is;
 }
+
+pub page_at : (xs : List Page) (x : Page) → ((k : ℕ) (d : Page) → k < length xs → IsPage (get_or xs k d))
+    → length xs ≡ 1 → x ≡ get_or xs 0 x → IsPage x
+page_at xs x all one is = subst IsPage (sym is) (all 0 x (omega (arith, one)))
 
 pub entries_told : (k : Known) (r : Record) (old new : Page) (before after : List Page)
     → OnePage r old new before after → IsPage new → EntriesLeft r old new → IsRemoveItemsHere k r before after

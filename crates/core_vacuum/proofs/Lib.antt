@@ -13,6 +13,7 @@ pub mod OneEntry
 mod DeadHeads
 pub mod HeapPages
 mod LostChildren
+mod LeftPages
 mod AmongLists
 mod GoneItems
 mod DroppedPages

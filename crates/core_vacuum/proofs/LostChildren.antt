@@ -1,5 +1,6 @@
 -- What the tests of a record DeletePost say.
-use Rattle.std.proofs.Common.{◌≡◌, ◌⊎◌, ◌<◌, ◌≤◌, ℕ, zero, suc, List, [], ◌∷◌, ◌++◌, length, take, drop, get_or}
+use Rattle.std.proofs.Common.{◌≡◌, ◌⊎◌, ◌<◌, ◌≤◌, ◌+◌, ◌-◌, ℕ, zero, suc, List, [], ◌∷◌, ◌++◌, length, take, drop}
+use Rattle.std.proofs.Common.{get_or}
 use Rattle.std.proofs.Common.{refl, sym, ap, ap₂, subst, ◌∙◌, inl, inr, arith}
 use Rattle.std.specs.Prelude.{Some}
 use Rattle.std.specs.List.{slice_get}
@@ -14,7 +15,8 @@ use Rattle.core_state.specs.Log.{changed, pages_of}
 use Rattle.core_state.specs.Known.{Known}
 use Rattle.core_state.specs.Changes.{made_with}
 use Rattle.core_state.specs.TreeRules.{IsUnlinked, IsDeletePostHere}
-use Rattle.core_vacuum.specs.Inner.Deleting.{LeavesDeleted, LosesChild, LeavesParent, LinksPast}
+use Rattle.core_vacuum.proofs.FreedSlots.{length_pages}
+use Rattle.core_vacuum.specs.Inner.Deleting.{LeavesDeleted, GoesAt, LosesChild, LeavesParent, LinksPast}
 
 -- ---- lists without a place
 
@@ -56,6 +58,113 @@ pub get_there : (cs : List PostChild) (i : ℕ) (c d : PostChild) → slice_get 
 get_there [] i c d e = absurd cc
 get_there (x ∷ cs) zero c d e = same_Some x c e
 get_there (x ∷ cs) (suc i) c d e = get_there cs i c d e
+
+-- the first places of the new list are those of the others
+pub record AgreeTo (cs : List PostChild) (k : ℕ) (new : List PostChild) (j : ℕ) : Type 0 where
+  pub each : (i : ℕ) → i < j → slice_get new i ≡ slice_get (others cs k) i
+
+abbrev no_child : PostChild
+no_child = record { page = 0; bound = 0 }
+
+abbrev child_with : ℕ → ℕ → PostChild
+child_with page bound = record { page = page; bound = bound }
+
+same_child : (c d : PostChild) → c.page ≡ d.page → c.bound ≡ d.bound → c ≡ d
+same_child c d p b = ap (λ (x : ℕ). child_with x c.bound) p ∙ ap (child_with d.page) b
+
+is_there : (cs : List PostChild) (i : ℕ) → i < length cs → slice_get cs i ≡ Some (get_or cs i no_child)
+is_there [] i lt = absurd (omega (arith, lt))
+is_there (c ∷ cs) zero lt = refl
+is_there (c ∷ cs) (suc i) lt = is_there cs i (omega (arith, lt))
+
+pub none_agree : (cs : List PostChild) (k : ℕ) (new : List PostChild) → AgreeTo cs k new 0
+none_agree cs k new = record { each = λ i lt. absurd (omega (arith, lt)) }
+
+-- the other child at a place, by the children
+abbrev pub IsOther : List PostChild → ℕ → ℕ → PostChild → Type 0
+IsOther cs k j was =
+    ((j < k) × (was ≡ get_or cs j no_child)) ⊎ ((k ≤ j) × (was ≡ get_or cs (j + 1) no_child))
+
+module _ (cs : List PostChild) (k : ℕ) (new : List PostChild) (j : ℕ) (within : k < length cs)
+    (size : length new ≡ length cs - 1) (here : j < length new) (was : PostChild) (is_was : IsOther cs k j was) where
+  -- the other child at this place
+  other_is : slice_get (others cs k) j ≡ Some was
+  other_is = elim is_was [
+    | inl low ↦ others_low cs k j within low.0 ∙ is_there cs j (omega (arith, low.0, within)) ∙ ap Some (sym low.1)
+    | inr high ↦
+        let next : suc j ≡ j + 1 = omega arith in
+        others_high cs k j within high.0
+        ∙ subst (λ (n : ℕ). slice_get cs n ≡ Some (get_or cs (j + 1) no_child)) (sym next)
+        (is_there cs (j + 1) (omega (arith, size, here))) ∙ ap Some (sym high.1)
+  ]
+
+  pub one_more_agrees : AgreeTo cs k new j → (get_or new j no_child).page ≡ was.page
+      → (get_or new j no_child).bound ≡ was.bound → AgreeTo cs k new (j + 1)
+  one_more_agrees a page bound = record { each = λ i lt. go i (below_or_at i lt) }
+    where
+      below_or_at : (i : ℕ) → i < j + 1 → (i < j) ⊎ (i ≡ j)
+      below_or_at i lt = grind (arith, lt)
+
+      go : (i : ℕ) → (i < j) ⊎ (i ≡ j) → slice_get new i ≡ slice_get (others cs k) i
+      go i (inl below) = a.each i below
+      go i (inr at) = subst (λ (n : ℕ). slice_get new n ≡ slice_get (others cs k) n) (sym at)
+          (is_there new j here ∙ ap Some (same_child (get_or new j no_child) was page bound) ∙ sym other_is)
+
+  -- the child of a list that is the others'
+  pub other_there : new ≡ others cs k → get_or new j no_child ≡ was
+  other_there e =
+      same_Some _ _ (sym (is_there new j here) ∙ ap (λ (xs : List PostChild). slice_get xs j) e ∙ other_is)
+
+pub all_agree : (cs : List PostChild) (k : ℕ) (new : List PostChild) (j : ℕ) → k < length cs
+    → length new ≡ length cs - 1 → length new ≤ j → AgreeTo cs k new j → new ≡ others cs k
+all_agree cs k new j within size end a =
+    let n = others_length cs k within in
+    same_lists new (others cs k) (omega (arith, n, size)) (λ i lt. a.each i (omega (arith, lt, end)))
+
+pub size_is : (cs : List PostChild) (k : ℕ) (new : List PostChild) → k < length cs → new ≡ others cs k
+    → length new ≡ length cs - 1
+size_is cs k new within e =
+    let n = others_length cs k within in omega (arith, n, ap length e)
+
+-- ---- which child goes
+
+-- none of those before this one goes
+pub record NoneBefore (page : ℕ) (old new : List PostChild) (n : ℕ) : Type 0 where
+  pub none : (i : ℕ) → i + 1 < n → GoesAt page old new i → ⊥
+
+module _ (page : ℕ) (old new : List PostChild) where
+  pub none_first : NoneBefore page old new 1
+  none_first = record { none = λ i lt g. omega (arith, lt) }
+
+  pub page_there : (k : ℕ) → GoesAt page old new k → (get_or old k no_child).page ≡ page
+  page_there k g = ap (λ (c : PostChild). c.page) (get_there old k g.child no_child g.at) ∙ g.page_is
+
+  pub goes_there : (n : ℕ) → 1 ≤ n → n < length old → (get_or old (n - 1) no_child).page ≡ page
+      → new ≡ others old (n - 1) → LosesChild page old new
+  goes_there n some within e is = (
+    n - 1,
+    record {
+      child = get_or old (n - 1) no_child;
+      at = is_there old (n - 1) (omega (arith, within));
+      page_is = e;
+      not_last = omega (arith, some, within);
+      others = is;
+    },
+  )
+
+  pub none_more : (n : ℕ) → (GoesAt page old new (n - 1) → ⊥) → NoneBefore page old new n
+      → NoneBefore page old new (n + 1)
+  none_more n here so = record { none = λ i lt g. go i (below_or_at i lt) g }
+    where
+      below_or_at : (i : ℕ) → i + 1 < n + 1 → (i + 1 < n) ⊎ (i ≡ n - 1)
+      below_or_at i lt = grind (arith, lt)
+
+      go : (i : ℕ) → (i + 1 < n) ⊎ (i ≡ n - 1) → GoesAt page old new i → ⊥
+      go i (inl below) g = so.none i below g
+      go i (inr at) g = here (subst (GoesAt page old new) at g)
+
+  pub none_goes : (n : ℕ) → length old ≤ n → NoneBefore page old new n → LosesChild page old new → ⊥
+  none_goes n end so w = so.none w.0 (omega (arith, w.1.not_last, end)) w.1
 
 -- ---- the child by its place, and between the others
 
@@ -249,6 +358,29 @@ parent_back k r before after w = record {
   after = refl;
 }
 
+-- what is asked of the numbers of changes and of pages
+pub record Sizes (count before after : ℕ) : Type 0 where
+  pub before_is : before ≡ count
+  pub after_is : after ≡ count
+  pub least : 2 ≤ count
+  pub most : count ≤ 3
+
+sized : (n : ℕ) {c b a : ℕ} → c ≡ n → b ≡ n → a ≡ n → (n ≡ 2) ⊎ (n ≡ 3) → Sizes c b a
+sized n e f g few = record {
+  before_is = f ∙ sym e;
+  after_is = g ∙ sym e;
+  least =
+      subst (λ (m : ℕ). 2 ≤ m) (sym e) (elim few [ inl two ↦ omega (arith, two) | inr three ↦ omega (arith, three) ]);
+  most =
+      subst (λ (m : ℕ). m ≤ 3) (sym e) (elim few [ inl two ↦ omega (arith, two) | inr three ↦ omega (arith, three) ]);
+}
+
+pub not_less : {m n : ℕ} → m ≡ n → 2 ≤ n → m < 2 → ⊥
+not_less e le lt = omega (arith, e, le, lt)
+
+pub not_more : {m n : ℕ} → m ≡ n → n ≤ 3 → 3 < m → ⊥
+not_more e le lt = omega (arith, e, le, lt)
+
 -- what it says of its first page, of its last, and of the one between them
 module _ (k : Known) (r : Record) (before after : List Page) (w : IsDeletePostHere k r before after) where
   pub leaf_back : (old new : Page) → old ≡ get_or before 0 old → new ≡ get_or after 0 new → LeavesDeleted r old new
@@ -311,18 +443,18 @@ module _ (k : Known) (r : Record) (before after : List Page) (w : IsDeletePostHe
           passes)))
 
   -- it changes two pages or three
-  pub few_pages : (length before ≡ 2) ⊎ (length before ≡ 3)
-  few_pages = go w.lefts w.lefts_before w.lefts_after w.unlinked w.before_is
+  pub sizes : Sizes (length r.changes) (length before) (length after)
+  sizes = go w.lefts w.lefts_before w.lefts_after w.unlinked w.pages w.before_is w.after_is
     where
       go : (ls : List ℕ) (bs cs : List Page) → IsUnlinked r w.page w.old.right ls bs cs
-          → before ≡ w.old ∷ (bs ++ w.old_parent ∷ []) → (length before ≡ 2) ⊎ (length before ≡ 3)
-      go _ _ _ IsUnlinked.none b = inl (ap length b)
-      go _ _ _ (IsUnlinked.one q left high items was link) b = inr (ap length b)
-
--- the first page of a list is one
-pub first_same : (xs : List Page) (x y : Page) → 0 < length xs → x ≡ get_or xs 0 x → y ≡ get_or xs 0 y → x ≡ y
-first_same [] x y some e f = absurd (omega (arith, some))
-first_same (z ∷ xs) x y some e f = e ∙ sym f
+          → changed r ≡ w.page ∷ (ls ++ w.parent ∷ []) → before ≡ w.old ∷ (bs ++ w.old_parent ∷ [])
+          → after ≡ made_with r w.old.right (body.Deleted (gone.PostLeaf w.high []))
+          ∷ (cs ++ made_with r w.old_parent.right (body.PostInner (w.front ++ w.next ∷ w.back)) ∷ [])
+          → Sizes (length r.changes) (length before) (length after)
+      go _ _ _ IsUnlinked.none ps b a =
+          sized 2 (sym (length_pages r.changes) ∙ ap length ps) (ap length b) (ap length a) (inl refl)
+      go _ _ _ (IsUnlinked.one q left high items was link) ps b a =
+          sized 3 (sym (length_pages r.changes) ∙ ap length ps) (ap length b) (ap length a) (inr refl)
 
 -- ---- the pages that it changes
 

@@ -15,12 +15,13 @@ fn leaves_deleted(rec: &Record, old: &Page, new: &Page) -> bool
     let Body::PostLeaf { high, items } = &old.body else {
         return false;
     };
-    let Body::Deleted(
-        Gone::PostLeaf {
-            high: kept,
-            items: left,
-        },
-    ) = &new.body
+    let Body::Deleted(gone) = &new.body else {
+        return false;
+    };
+    let Gone::PostLeaf {
+        high: kept,
+        items: left,
+    } = gone
     else {
         return false;
     };
@@ -40,7 +41,8 @@ fn are_others(children: &[PostChild], k: usize, new: &[PostChild]) -> bool
     }
     for j in 0..new.len() {
         let was = if j < k { children[j] } else { children[j + 1] };
-        if new[j].page != was.page || new[j].bound != was.bound {
+        let now = new[j];
+        if now.page != was.page || now.bound != was.bound {
             return false;
         }
     }
@@ -51,8 +53,9 @@ fn are_others(children: &[PostChild], k: usize, new: &[PostChild]) -> bool
 fn loses_child(children: &[PostChild], page: u32, new: &[PostChild]) -> bool
     ensures { result ≡ true ↔ LosesChild page children.now new.now }
 {
-    for k in 1..children.len() {
-        if children[k - 1].page == page && are_others(children, k - 1, new) {
+    for next in 1..children.len() {
+        let k = next - 1;
+        if children[k].page == page && are_others(children, k, new) {
             return true;
         }
     }
@@ -115,15 +118,16 @@ pub fn valid_delete_post(
     if before.len() != count || after.len() != count || count < 2 || count > 3 {
         return Ok(false);
     }
-    let page = changes[0].page;
-    if !leaves_deleted(rec, &before[0], &after[0]) {
+    let (page, last) = (changes[0].page, count - 1);
+    let (old, new) = (&before[0], &after[0]);
+    if !leaves_deleted(rec, old, new) {
         return Ok(false);
     }
-    if !leaves_parent(rec, page, &before[count - 1], &after[count - 1]) {
+    if !leaves_parent(rec, page, &before[last], &after[last]) {
         return Ok(false);
     }
     if count == 2 {
         return Ok(true);
     }
-    Ok(links_past(rec, page, before[0].right, &before[1], &after[1]))
+    Ok(links_past(rec, page, old.right, &before[1], &after[1]))
 }

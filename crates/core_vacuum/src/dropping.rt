@@ -11,7 +11,7 @@ ghost use Rattle.core_state.specs.Judging.{Judges};
 ghost use Rattle.core_state.specs.Inner.HeadChanges.{LeavesInSlot};
 ghost use Rattle.core_vacuum.specs.Inner.Dropping.{FirstGone};
 
-use crate::freeing::is_dead;
+use crate::freeing::{is_dead, is_same_head};
 use core_state::{State, begin_with, head_in, others_stay};
 use page_types::{Body, Gone, HeadFields, HeadRef, Kind, Name, Page, Record, Rows, Slots};
 use std::alloc::AllocError;
@@ -103,7 +103,7 @@ fn puts_head(slots: &Slots, slot: u16, head: HeadRef<'_>, new: &Slots) -> bool
     let Some(now) = new.get(k) else {
         return false;
     };
-    if now.fields != head.fields || now.vector != head.vector {
+    if !is_same_head(now, head) {
         return false;
     }
     new.len() == slots.len().max(k + 1) && others_stay(slots, k, new)
@@ -147,14 +147,16 @@ pub fn valid_drop_page(
     if page == 0 || before.len() != 2 || after.len() != 2 {
         return Ok(false);
     }
-    let Some(head) = head_in(&before[0], name) else {
+    let (old, was) = (&before[0], &before[1]);
+    let (new, dropped) = (&after[0], &after[1]);
+    let Some(head) = head_in(old, name) else {
         return Ok(false);
     };
     if !is_dead(state, head, floor) {
         return Ok(false);
     }
-    let Some(then) = head_then(rec, page, head, &before[1], &after[1]) else {
+    let Some(then) = head_then(rec, page, head, was, dropped) else {
         return Ok(false);
     };
-    Ok(leaves_in_slot(rec, name.slot, &before[0], then, &after[0]))
+    Ok(leaves_in_slot(rec, name.slot, old, then, new))
 }

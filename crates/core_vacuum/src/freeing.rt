@@ -37,7 +37,7 @@ fn may_be_freed(state: &State, head: HeadRef<'_>, floor: u32) -> bool
 }
 
 /// Whether two heads are the same.
-fn is_same_head(a: HeadRef<'_>, b: HeadRef<'_>) -> bool
+pub fn is_same_head(a: HeadRef<'_>, b: HeadRef<'_>) -> bool
     ensures { result ≡ true ↔ (head_shown a.entry ≡ head_shown b.entry) }
 {
     a.fields == b.fields && a.vector == b.vector

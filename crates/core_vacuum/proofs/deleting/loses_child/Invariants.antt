@@ -1,6 +1,5 @@
-use Rattle.std.proofs.Common.{◌<◌, ◌+◌, ℕ}
-use Rattle.core_vacuum.specs.Inner.Deleting.{GoesAt}
+use Rattle.core_vacuum.proofs.LostChildren.{NoneBefore}
 use Rattle.core_vacuum.proofs.deleting.loses_child.Given as goal
 
-abbrev pub invariant-loop-k : goal.invariant-loop-k
-invariant-loop-k l = (i : ℕ) → i + 1 < l.k → GoesAt l.page l.children l.new i → ⊥
+abbrev pub invariant-loop-next : goal.invariant-loop-next
+invariant-loop-next l = NoneBefore l.page l.children l.new l.next

@@ -2,7 +2,7 @@ use Rattle.core_vacuum.proofs.DeadHeads.{dead_heads_hold, right_keeps_dead_heads
 use Rattle.core_vacuum.proofs.heads.dead_heads_stay.Goals as goal
 
 pub returns-clause-records : goal.returns-clause-records
-returns-clause-records c = dead_heads_hold c.shift_keeps.ensures
+returns-clause-records c = dead_heads_hold
 
 pub returns-clause-right : goal.returns-clause-right
 returns-clause-right c = right_keeps_dead_heads

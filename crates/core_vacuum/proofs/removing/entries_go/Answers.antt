@@ -2,7 +2,7 @@ use Rattle.std.proofs.Common.{◌≡◌, ◌≤◌, length, sym, ap, ◌∙◌, 
 use Rattle.std.proofs.lemmas.Bool.{false≢true}
 use Rattle.page_types.specs.Parts.{entry_shown}
 use Rattle.page_types.specs.declared.page.Entry.{Entry}
-use Rattle.core_vacuum.proofs.GoneItems.{none_goes, one_more, all_go, some_goes, same_key, same_entry}
+use Rattle.core_vacuum.proofs.GoneItems.{none_goes, one_more, all_go, some_goes, same_key, same_entry, is_entry}
 use Rattle.core_vacuum.proofs.removing.entries_go.Goals as goal
 use Rattle.core_vacuum.proofs.removing.entries_go.Goals.{then-less, else-less}
 
@@ -45,3 +45,31 @@ returns c =
       all_go c.args.old.now c.args.new.now c.loop-k.k c.loop-k.less size end c.loop-k.invariant,
       some_goes c.args.old.now c.args.new.now c.loop-k.k c.loop-k.less end c.loop-k.invariant,
     )
+
+pub returns-then-len : goal.returns-then-len
+returns-then-len c = (
+  λ e. absurd (false≢true e),
+  λ w. absurd (c.if-len.true (c.len.ensures ∙ w.same_length ∙ sym c.len-2.ensures)),
+)
+
+pub returns-in_default : goal.returns-in_default
+returns-in_default c =
+    absurd (omega (arith, c.loop-k-test.true, c.len-k-end.ensures, c.in_default.ensures.none))
+
+pub returns-in_default-get : goal.returns-in_default-get
+returns-in_default-get c = absurd (omega (
+  arith,
+  c.loop-k-test.true,
+  c.len-k-end.ensures,
+  c.len.ensures,
+  c.len-2.ensures,
+  c.if-len.false,
+  c.in_default-get.ensures.none,
+))
+
+pub entry_goes-requires : goal.entry_goes-requires
+entry_goes-requires c = record {
+  old = is_entry c.args.old.now c.loop-k.k (entry_shown c.in-Some.was) c.requires.old.each c.in-Some.ensures.some;
+  new = is_entry c.args.new.now c.loop-k.k (entry_shown c.in-Some-get.left) c.requires.new.each
+      c.in-Some-get.ensures.some;
+}
