@@ -11,7 +11,7 @@ use Rattle.page_types.specs.Items.{items_of, IsItemList}
 use Rattle.page_types.specs.Keys.{IsKey, KeyLess}
 use Rattle.page_types.specs.Pages.{IsPage, IsBody, IsEntry, AreEntries}
 use Rattle.page_types.specs.Encoding.{entry_bytes, high_key_bytes, body_bytes}
-use Rattle.page_types.specs.Views.{with_postings, entries_in}
+use Rattle.page_types.specs.Views.{entries_in}
 use Rattle.page_types.specs.declared.page.Page.{Page}
 use Rattle.page_types.specs.declared.page.Entry.{Entry}
 use Rattle.page_types.specs.declared.page.Postings.{Postings}
@@ -24,7 +24,8 @@ use Rattle.core_state.specs.TreeRules.{IsEntryBetween}
 use Rattle.posting_code.specs.Uniting.{IsUnited}
 use Rattle.entry_tree.specs.Reading.{upper_in}
 use Rattle.entry_tree.specs.Inner.Searching.{keys_of, IsBetween}
-use Rattle.entry_tree.specs.Inner.Spots.{entries_after, entries_with, AreAround, IsSpot, leaf_at}
+use Rattle.entry_tree.specs.Inner.Spots.{entries_after, entries_with, AreAround, IsSpot, leaf_at, IsPlace}
+use Rattle.entry_tree.specs.Inner.Spots.{entries_put, leaf_put}
 use Rattle.entry_tree.specs.Adding.{IsEntryLeaf, list_entry, tree_entry, IsUnder, leaf_with, IsAnswer, IsAdded}
 use Rattle.entry_tree.specs.declared.adding.Added.TheVariants as added
 use Rattle.entry_tree.proofs.FoundPlaces.{around, all_there}
@@ -153,22 +154,17 @@ under_at content key items old list place there spot united = record {
 
 -- ---- the list at that place
 
-spot_slice : (entries : List Entry) (key old : List ℕ) (place : ℕ) (there : Bool) → IsSpot entries key place there old
-    → there ≡ true → slice_get entries place ≡ Some (list_entry key old)
-spot_slice entries key _ place _ (IsSpot.here list at a) e = at
-spot_slice entries key _ place _ (IsSpot.absent le a) e = absurd cc
-
-pub spot_within : (entries : List Entry) (key old : List ℕ) (place : ℕ) (there : Bool)
-    → IsSpot entries key place there old → there ≡ true → place < length entries
-spot_within entries key old place there spot e =
-    slice_get_within entries place (list_entry key old) (spot_slice entries key old place there spot e)
+pub spot_place : (entries : List Entry) (key old : List ℕ) (place : ℕ) (there : Bool)
+    → IsSpot entries key place there old → IsPlace entries place there
+spot_place entries key _ place _ (IsSpot.here list at a) = slice_get_within entries place (list_entry key list) at
+spot_place entries key _ place _ (IsSpot.absent le a) = le
 
 pub list_put : (entries : List Entry) (key old list : List ℕ) (place : ℕ) (there : Bool)
-    → IsSpot entries key place there old → there ≡ true
-    → with_postings entries place (Inline list) ≡ entries_with entries key place there list
-list_put entries key _ list place _ (IsSpot.here l at a) e =
+    → IsSpot entries key place there old
+    → entries_put entries place there (list_entry key list) ≡ entries_with entries key place there list
+list_put entries key _ list place _ (IsSpot.here l at a) =
     with_postings_at entries place (list_entry key l) (Inline list) at
-list_put entries key _ list place _ (IsSpot.absent le a) e = absurd cc
+list_put entries key _ list place _ (IsSpot.absent le a) = refl
 
 -- the body with another list in the key's entry
 pub here_size : (content : Body) (key old list : List ℕ) (place : ℕ) (there : Bool) → IsEntryLeaf content
@@ -214,20 +210,16 @@ added_full p key items old list place there spot united short more =
 pub added_done : (p q : Page) (key items old list : List ℕ) (place : ℕ) (there : Bool)
     → IsSpot (entries_in p.body) key place there old → IsUnited old items list → length list ≤ most_inline
     → length (body_bytes (leaf_at p.body key place there list)) ≤ most_body
-    → q ≡ record p { body = leaf_at p.body key place there list } → IsAdded p key items (added.Done q)
-added_done p q key items old list place there spot united short fits e = record {
-  under = under_at p.body key items old list place there spot united;
-  is = subst (λ (r : Page). IsAnswer p list (leaf_at p.body key place there list) (added.Done r)) (sym e)
-      (IsAnswer.done short fits);
-}
-
--- the page as it is made
-pub made_leaf : (p q : Page) (high : List ℕ) (entries more : List Entry) (key list : List ℕ) (place : ℕ) (there : Bool)
-    → p.body ≡ body.EntryLeaf high entries → q ≡ record p { body = body.EntryLeaf high more }
-    → more ≡ entries_with entries key place there list → q ≡ record p { body = leaf_at p.body key place there list }
-made_leaf p q high entries more key list place there is made e =
-    made ∙ ap (λ (es : List Entry). record p { body = body.EntryLeaf high es }) e
-    ∙ ap (λ (b : Body). record p { body = leaf_at b key place there list }) (sym is)
+    → q ≡ record p { body = leaf_put p.body place there (list_entry key list) } → IsAdded p key items (added.Done q)
+added_done p q key items old list place there spot united short fits made =
+    let e : q ≡ record p { body = leaf_at p.body key place there list } =
+    made ∙ ap (λ (es : List Entry). record p { body = body.EntryLeaf (upper_in p.body) es })
+    (list_put (entries_in p.body) key old list place there spot) in
+    record {
+      under = under_at p.body key items old list place there spot united;
+      is = subst (λ (r : Page). IsAnswer p list (leaf_at p.body key place there list) (added.Done r)) (sym e)
+          (IsAnswer.done short fits);
+    }
 
 -- ---- the page
 

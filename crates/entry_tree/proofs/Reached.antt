@@ -1,7 +1,8 @@
 -- What is found at the place that a search has come to.
 use Rattle.std.proofs.Common.{◌≡◌, ◌≢◌, ◌⊎◌, ℕ, suc, ◌<◌, ◌≤◌, List, [], length, take, drop, get_or, refl, sym, ap}
-use Rattle.std.proofs.Common.{subst, ◌∙◌, inl, inr, arith}
-use Rattle.std.specs.Prelude.{Some}
+use Rattle.std.proofs.Common.{Bool, eqb, subst, ◌∙◌, inl, inr, arith}
+use Rattle.std.specs.Prelude.{Option, Some, None, IsTrue, ◌↔◌}
+use Rattle.std.specs.Cmp.Lexicographic.{pointwise, bytes_decides}
 use Rattle.std.specs.List.{slice_get}
 use Rattle.std.proofs.lemmas.List.{length-take-le, take-append-drop, length-map}
 use Rattle.std.proofs.lemmas.Option.{slice_get_within}
@@ -119,3 +120,15 @@ found_past right children key place w le =
     IsFoundIn.past_inner children refl
     (λ b on. let r = in_back (λ (d : EntryChild). d.bound) 0 children b on in
     child_below children key place r.0 b w r.2 (omega (arith, r.2.within, le)))
+
+-- whether the entry at a place has the key
+pub key_told : (entries : List Entry) (k : ℕ) (e : Entry) (key : List ℕ) (has : Bool) → slice_get entries k ≡ Some e
+    → has ≡ pointwise eqb e.key key → IsTrue has ↔ ((x : Entry) × (slice_get entries k ≡ Some x) × (x.key ≡ key))
+key_told entries k e key has at told = (
+  λ t. (e, at, (bytes_decides e.key key).0 (sym told ∙ t)),
+  λ h. told ∙ (bytes_decides e.key key).1 (ap key_in (sym at ∙ h.1) ∙ h.2),
+)
+  where
+    key_in : Option Entry → List ℕ
+    key_in None = []
+    key_in (Some x) = x.key

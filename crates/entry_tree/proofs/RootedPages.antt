@@ -1,14 +1,14 @@
 -- A leaf with an entry that leads to a posting tree: how many bytes it has, that it has an encoding, and the entry
 -- between the others.
 use Rattle.std.proofs.Common.{◌≡◌, ℕ, zero, suc, ◌+◌, ◌<◌, ◌≤◌, List, [], ◌∷◌, ◌++◌, length, take, drop, sym}
-use Rattle.std.proofs.Common.{ap, subst, ◌∙◌, arith}
-use Rattle.std.specs.Prelude.{Some}
+use Rattle.std.proofs.Common.{ap, ◌∙◌, arith}
+use Rattle.std.specs.Prelude.{Option, Some, None}
 use Rattle.std.specs.List.{AllByRecursion, slice_get}
 use Rattle.page_types.specs.Numbers.{most_body, page_limit}
 use Rattle.page_types.specs.Keys.{KeyLess, Rising}
 use Rattle.page_types.specs.Pages.{IsPage, IsBody, IsEntry, ArePostings}
 use Rattle.page_types.specs.Encoding.{entry_bytes, body_bytes}
-use Rattle.page_types.specs.Views.{with_postings, entries_in}
+use Rattle.page_types.specs.Views.{with_postings, entries_in, list_in}
 use Rattle.page_types.specs.declared.page.Page.{Page}
 use Rattle.page_types.specs.declared.page.Entry.{Entry}
 use Rattle.page_types.specs.declared.page.Postings.{Postings}
@@ -57,20 +57,16 @@ list_within _ place key list (IsEntryLeaf.leaf high entries) at = omega (
   entries_size high (take place entries) (drop (suc place) entries) key list,
 )
 
--- an entry that another body shows
-pub there_in : (content : Body) (high : List ℕ) (entries : List Entry) (place : ℕ) (e : Entry)
-    → content ≡ body.EntryLeaf high entries → slice_get entries place ≡ Some e
-    → slice_get (entries_in content) place ≡ Some e
-there_in content high entries place e is at =
-    subst (λ (b : Body). slice_get (entries_in b) place ≡ Some e) (sym is) at
-
--- the page as it is made
-pub made_rooted : (p q : Page) (high : List ℕ) (entries more : List Entry) (place root : ℕ)
-    → p.body ≡ body.EntryLeaf high entries → q ≡ record p { body = body.EntryLeaf high more }
-    → more ≡ with_postings entries place (Root root) → q ≡ record p { body = rooted p.body place root }
-made_rooted p q high entries more place root is made e =
-    made ∙ ap (λ (es : List Entry). record p { body = body.EntryLeaf high es }) e
-    ∙ ap (λ (b : Body). record p { body = rooted b place root }) (sym is)
+-- the list that is there is the only one
+pub list_short : (entries : List Entry) (place : ℕ) (key list k l : List ℕ)
+    → slice_get entries place ≡ Some (list_entry key list) → slice_get entries place ≡ Some (list_entry k l)
+    → length list < 2 → length l < 2
+list_short entries place key list k l at there short =
+    omega (arith, short, ap size_of (sym at ∙ there))
+  where
+    size_of : Option Entry → ℕ
+    size_of None = 0
+    size_of (Some e) = length (list_in e.postings)
 
 -- ---- the page
 

@@ -51,8 +51,8 @@ less_of Less e = refl
 less_of Equal e = absurd (let z : ⊥ = cc in z)
 less_of Greater e = absurd (let z : ⊥ = cc in z)
 
-pub below_told : (bound key : List ℕ) (o : Ordering) (b : Bool) → bound ≢ [] → o ≡ slice_cmp nat_cmp bound key → b ≡ is_lt o
-    → IsTrue b ↔ IsBelow bound key
+pub below_told : (bound key : List ℕ) (o : Ordering) (b : Bool) → bound ≢ [] → o ≡ slice_cmp nat_cmp bound key
+    → b ≡ is_lt o → IsTrue b ↔ IsBelow bound key
 below_told bound key o b some is told = (
   λ t. (some, sym is ∙ less_of o (sym told ∙ t)),
   λ below. told ∙ ap is_lt (is ∙ below.1),

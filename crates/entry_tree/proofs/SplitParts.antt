@@ -1,7 +1,8 @@
 -- The two parts of a page that is divided at a member: which they are, and how many bytes they have.
 use Rattle.std.proofs.Common.{◌≡◌, ◌≢◌, ℕ, zero, suc, ◌+◌, ◌<◌, ◌≤◌, List, [], ◌∷◌, ◌++◌, length, take, drop, refl}
 use Rattle.std.proofs.Common.{sym, ap, subst, ◌∙◌, append_assoc, inl, inr, add-one, arith}
-use Rattle.std.specs.Prelude.{Some}
+use Rattle.std.specs.Prelude.{Some, Result, Ok, Err, IfOk}
+use Rattle.std.specs.declared.alloc.AllocError.{AllocError}
 use Rattle.std.specs.List.{slice_get, flat_map}
 use Rattle.std.proofs.lemmas.List.{length-append, length-drop, length-take-le, take-append-drop, take_all}
 use Rattle.std.proofs.lemmas.List.Concat.{flat_map-append}
@@ -20,7 +21,8 @@ use Rattle.page_types.proofs.BodySizes.{length-root, grows}
 use Rattle.page_types.proofs.Cutting.{take_get}
 use Rattle.core_state.specs.TreeRules.{EntryHalves, Halves, FitsPage, listed_bytes}
 use Rattle.entry_tree.specs.Finding.{IsEntryBody}
-use Rattle.entry_tree.specs.Inner.Parts.{last_key, left_of, right_of, bytes_before, IsCutPlace}
+use Rattle.entry_tree.specs.Reading.{upper_in}
+use Rattle.entry_tree.specs.Inner.Parts.{last_key, left_of, right_of, cut_key, IsPart, bytes_before, IsCutPlace}
 use Rattle.entry_tree.proofs.KeyOrders.{key_some}
 use Rattle.entry_tree.proofs.FoundPlaces.{around, all_there}
 use Rattle.entry_tree.proofs.AdoptedPages.{key_length}
@@ -267,7 +269,7 @@ pub made_first : {A : Type 0} (xs part : List A) (k : ℕ) → take 0 xs ++ part
     → part ≡ take (suc k) xs
 made_first xs part k made = made ∙ ap (λ (n : ℕ). take n xs) (add-one k)
 
-pub made_rest : {A : Type 0} (xs part : List A) (k n : ℕ) → n ≡ length xs → take (k + 1) xs ++ part ≡ take n xs
+made_rest : {A : Type 0} (xs part : List A) (k n : ℕ) → n ≡ length xs → take (k + 1) xs ++ part ≡ take n xs
     → part ≡ drop (suc k) xs
 made_rest xs part k n size made =
     same_rest (take (suc k) xs) part (drop (suc k) xs)
@@ -282,5 +284,43 @@ between_more xs part part' from k x so_far at e =
     ∙ sym (take_get xs k x at)
 
 -- a part from the beginning on
-pub made_front : {A : Type 0} (xs part : List A) (k : ℕ) → take 0 xs ++ part ≡ take (k + 1) xs → part ≡ take (suc k) xs
+made_front : {A : Type 0} (xs part : List A) (k : ℕ) → take 0 xs ++ part ≡ take (k + 1) xs → part ≡ take (suc k) xs
 made_front xs part k made = made ∙ ap (λ (m : ℕ). take m xs) (add-one k)
+
+-- ---- the parts as they are made
+
+-- a part of a leaf, or of an inner page
+pub leaf_parts : (whole : Body) (high old : List ℕ) (entries : List Entry) (from to : ℕ) (r : Result Body AllocError)
+    → whole ≡ body.EntryLeaf old entries
+    → IfOk r (λ part. (es : List Entry) × (part ≡ body.EntryLeaf high es) × (take from entries ++ es ≡ take to entries))
+    → IfOk r (λ part. IsPart high from to whole part)
+leaf_parts whole high old entries from to (Ok part) is made =
+    subst (IsPart high from to whole) (sym made.1)
+    (subst (λ (b : Body). IsPart high from to b (body.EntryLeaf high made.0)) (sym is)
+    (IsPart.leaf old entries made.0 made.2))
+leaf_parts whole high old entries from to (Err e) is made = tt
+
+pub inner_parts : (whole : Body) (high : List ℕ) (children : List EntryChild) (from to : ℕ) (r : Result Body AllocError)
+    → whole ≡ body.EntryInner children
+    → IfOk r (λ part. (cs : List EntryChild) × (part ≡ body.EntryInner cs)
+    × (take from children ++ cs ≡ take to children))
+    → IfOk r (λ part. IsPart high from to whole part)
+inner_parts whole high children from to (Ok part) is made =
+    subst (IsPart high from to whole) (sym made.1)
+    (subst (λ (b : Body). IsPart high from to b (body.EntryInner made.0)) (sym is)
+    (IsPart.inner children made.0 made.2))
+inner_parts whole high children from to (Err e) is made = tt
+
+pub front_part : (whole b : Body) (high : List ℕ) (k : ℕ) → high ≡ cut_key whole k → IsPart high 0 (k + 1) whole b
+    → b ≡ left_of whole k
+front_part _ _ high k e (IsPart.leaf old entries part made) =
+    ap (λ (h : List ℕ). body.EntryLeaf h part) e
+    ∙ ap (body.EntryLeaf (last_key (take (suc k) entries))) (made_front entries part k made)
+front_part _ _ high k e (IsPart.inner children part made) = ap body.EntryInner (made_front children part k made)
+
+pub back_part : (whole b : Body) (high : List ℕ) (k n : ℕ) → high ≡ upper_in whole → n ≡ count_of whole
+    → IsPart high (k + 1) n whole b → b ≡ right_of whole k
+back_part _ _ high k n e size (IsPart.leaf old entries part made) =
+    ap (λ (h : List ℕ). body.EntryLeaf h part) e ∙ ap (body.EntryLeaf old) (made_rest entries part k n size made)
+back_part _ _ high k n e size (IsPart.inner children part made) =
+    ap body.EntryInner (made_rest children part k n size made)

@@ -1,7 +1,9 @@
 -- The place that is found is where a split divides a page.
 use Rattle.std.proofs.Common.{◌≡◌, ◌⊎◌, ℕ, suc, ◌+◌, ◌*◌, ◌<◌, ◌≤◌, length, refl, sym, ap, subst, ◌∙◌, inl, inr}
-use Rattle.std.proofs.Common.{add-one, arith}
-use Rattle.std.proofs.lemmas.Bool.{cases_lt}
+use Rattle.std.proofs.Common.{leb, add-one, arith}
+use Rattle.std.specs.Prelude.{◌↔◌, IsTrue}
+use Rattle.std.proofs.lemmas.Bool.{cases_lt, false≢true}
+use Rattle.std.proofs.lemmas.Bool.Decides.{leb_tells}
 use Rattle.page_types.specs.Numbers.{most_body}
 use Rattle.page_types.specs.Encoding.{body_bytes, count_of}
 use Rattle.page_types.specs.Pages.{IsPage}
@@ -13,8 +15,8 @@ use Rattle.posting_code.specs.declared.dividing.Keep.TheVariants.{Most}
 use Rattle.entry_tree.specs.Finding.{IsEntryBody}
 use Rattle.entry_tree.specs.Splitting.{body_cutting}
 use Rattle.entry_tree.specs.Inner.Parts.{left_of, right_of, bytes_before, IsCutPlace, IsFirstHalf, IsLastFitting}
-use Rattle.entry_tree.proofs.SplitParts.{halves_at, halves_only, ArePartsAt, count_left, none_before, left_listed}
-use Rattle.entry_tree.proofs.SplitParts.{right_small, first_fits}
+use Rattle.entry_tree.proofs.SplitParts.{halves_at, halves_only, ArePartsAt, count_left, none_before, all_listed}
+use Rattle.entry_tree.proofs.SplitParts.{left_listed, right_small, first_fits}
 
 -- ---- the rule
 
@@ -149,6 +151,22 @@ below_goes_on whole k size more all is b e total less = record {
     ))
   ];
 }
+
+-- whether a first part has half of the bytes, by their numbers
+pub half_told : (whole : Body) (k n part all : ℕ) → IsEntryBody whole → n ≡ count_of whole
+    → all ≡ length (bytes_before whole n) → part ≡ length (bytes_before whole (k + 1))
+    → IsTrue (leb all (2 * part)) ↔ KeepsHalf whole (left_of whole k)
+half_told whole k n part all is size total part_is =
+    let whole_is : all ≡ length (listed_bytes whole) = total ∙ all_listed whole n is size in
+    let left_is : length (listed_bytes (left_of whole k)) ≡ part =
+    left_listed whole k is ∙ ap (λ (m : ℕ). length (bytes_before whole m)) (sym (add-one k)) ∙ sym part_is in
+    elim (leb_tells all (2 * part)) [
+      | inl le ↦ (λ t. omega (arith, le.1, whole_is, left_is), λ keeps. le.0)
+      | inr gt ↦ (
+        λ t. absurd (false≢true (sym gt.0 ∙ t)),
+        λ keeps. absurd (omega (arith, keeps, gt.1, whole_is, left_is)),
+      )
+    ]
 
 pub half_found : (whole : Body) (k size more all : ℕ) → IsEntryBody whole → IsBelowHalf whole k size
     → IsCutPlace whole k

@@ -4,20 +4,19 @@ ghost use Rattle.std.specs.List.{slice_get};
 ghost use Rattle.page_types.specs.Numbers.{most_body, most_inline};
 ghost use Rattle.page_types.specs.Items.{AreItems, IsItemList};
 ghost use Rattle.page_types.specs.Keys.{IsKey};
+ghost use Rattle.page_types.specs.Parts.{entry_shown};
 ghost use Rattle.page_types.specs.Encoding.{body_bytes};
 ghost use Rattle.page_types.specs.Pages.{IsPage};
 ghost use Rattle.page_types.specs.Views.{entries_in};
 ghost use Rattle.page_types.specs.declared.page.Page.{Page};
-ghost use Rattle.page_types.specs.declared.page.Body.TheVariants as body;
 ghost use Rattle.posting_code.specs.Uniting.{IsUnited};
 ghost use Rattle.entry_tree.specs.Adding.{IsEntryLeaf, HasNoTree, list_entry, IsAdded};
-ghost use Rattle.entry_tree.specs.Inner.Spots.{IsSpot, entries_with, leaf_at};
+ghost use Rattle.entry_tree.specs.Inner.Spots.{IsSpot, leaf_at, IsPlace, leaf_put};
 
 use crate::searching::{Marks, below};
 use gin_opclass::{CompareKeys, Judge, Meaning, OpClass};
 use page_types::{
-    Body, Bytes, Entries, EntryRef, MOST_BODY_BYTES, MOST_INLINE_BYTES, Page, PostingsRef,
-    body_length,
+    Body, Entries, EntryRef, MOST_BODY_BYTES, MOST_INLINE_BYTES, Page, PostingsRef, body_length,
 };
 use posting_code::merge;
 use std::alloc::{AllocError, Global};
@@ -123,38 +122,44 @@ fn size_with(page: &Page, spot: Spot<'_>, key: &[u8], list: &[u8]) -> usize
     }
 }
 
-/// Puts this list of the key at its place among the entries.
-fn put_list(
-    entries: &mut Entries,
-    spot: Spot<'_>,
-    key: &[u8],
-    list: &[u8],
-) -> Result<(), AllocError>
-    requires { IsSpot entries.old key.now spot.place spot.there spot.old.now }
-    ensures { IfOk result (λ done. entries.new
-        ≡ entries_with entries.old key.now spot.entry.place spot.entry.there list.now) }
+/// Puts an entry at its place on a leaf: its items into the entry that is there, or itself between
+/// the others.
+fn put(leaf: &mut Page, place: usize, there: bool, entry: EntryRef<'_>) -> Result<(), AllocError>
+    requires leaf { IsEntryLeaf leaf.old.body }
+    requires place { IsPlace (entries_in leaf.old.body) place there }
+    ensures { IfOk result (λ done. leaf.new
+        ≡ record leaf.old { body = leaf_put leaf.old.body place there (entry_shown entry.entry) }) }
 {
-    let postings = PostingsRef::Inline(list);
-    if spot.there {
-        entries.set_postings(spot.place, postings)
+    let Body::EntryLeaf { entries, .. } = &mut leaf.body else {
+        unreachable!()
+    };
+    if there {
+        entries.set_postings(place, entry.postings)
     } else {
-        entries.insert(spot.place, EntryRef { key, postings })
+        entries.insert(place, entry)
     }
 }
 
-/// The page as a leaf with these entries.
-pub(crate) fn leaf_of(page: &Page, high: &Bytes, entries: Entries) -> Result<Page, AllocError>
-    ensures { IfOk result (λ leaf.
-        leaf ≡ record page.now { body = body.EntryLeaf high.now entries }) }
+/// The leaf with this entry at its place.
+pub(crate) fn leaf_with(
+    page: &Page,
+    place: usize,
+    there: bool,
+    entry: EntryRef<'_>,
+) -> Result<Page, AllocError>
+    requires leaf { IsEntryLeaf page.now.body }
+    requires place { IsPlace (entries_in page.now.body) place there }
+    ensures { IfOk result (λ leaf. leaf
+        ≡ record page.now { body = leaf_put page.now.body place there (entry_shown entry.entry) }) }
 {
-    Ok(Page {
-        right: page.right,
-        stamp: page.stamp,
-        body: Body::EntryLeaf {
-            high: high.clone()?,
-            entries,
-        },
-    })
+    let mut leaf = page.clone()?;
+    match put(&mut leaf, place, there, entry) {
+        Ok(()) => Ok(leaf),
+        Err(e) => {
+            drop(leaf);
+            Err(e)
+        }
+    }
 }
 
 /// The leaf with this list of the key, where neither is too long.
@@ -166,18 +171,17 @@ fn add_list(page: &Page, spot: Spot<'_>, key: &[u8], list: &[u8]) -> Result<Adde
     ensures { IfOk result (λ answer. (items : List ℕ)
         → IsUnited spot.entry.old.now items list.now → IsAdded page.now key.now items answer) }
 {
-    let Body::EntryLeaf { high, entries } = &page.body else {
-        unreachable!()
-    };
     if list.len() > MOST_INLINE_BYTES {
         return Ok(Added::TooLong);
     }
     if size_with(page, spot, key, list) > MOST_BODY_BYTES {
         return Ok(Added::Full);
     }
-    let mut more = entries.clone()?;
-    put_list(&mut more, spot, key, list)?;
-    Ok(Added::Done(leaf_of(page, high, more)?))
+    let entry = EntryRef {
+        key,
+        postings: PostingsRef::Inline(list),
+    };
+    Ok(Added::Done(leaf_with(page, spot.place, spot.there, entry)?))
 }
 
 /// A leaf with items added under a key, whose entry is made where there is none.

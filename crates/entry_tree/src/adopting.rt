@@ -77,10 +77,15 @@ pub fn adopt(parent: &Page, page: u32, new: u32, mid: &[u8]) -> Result<Option<Pa
         return Ok(None);
     };
     let mut more = children.clone()?;
-    put_one_more(children, place, new, mid, &mut more)?;
-    Ok(Some(Page {
-        right: parent.right,
-        stamp: parent.stamp,
-        body: Body::EntryInner(more),
-    }))
+    match put_one_more(children, place, new, mid, &mut more) {
+        Ok(()) => Ok(Some(Page {
+            right: parent.right,
+            stamp: parent.stamp,
+            body: Body::EntryInner(more),
+        })),
+        Err(e) => {
+            drop(more);
+            Err(e)
+        }
+    }
 }

@@ -22,16 +22,23 @@ pub fn grow(alloc: Global, page: &Page, child: u32) -> Result<(Page, Page), Allo
         page: child,
         bound: &[],
     })?;
-    let body = page.body.clone()?;
-    let root = Page {
-        right: page.right,
-        stamp: page.stamp,
-        body: Body::EntryInner(children),
-    };
-    let moved = Page {
-        right: 0,
-        stamp: page.stamp,
-        body,
-    };
-    Ok((root, moved))
+    match page.body.clone() {
+        Ok(body) => {
+            let root = Page {
+                right: page.right,
+                stamp: page.stamp,
+                body: Body::EntryInner(children),
+            };
+            let moved = Page {
+                right: 0,
+                stamp: page.stamp,
+                body,
+            };
+            Ok((root, moved))
+        }
+        Err(e) => {
+            drop(children);
+            Err(e)
+        }
+    }
 }

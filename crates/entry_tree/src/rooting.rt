@@ -8,23 +8,31 @@ ghost use Rattle.page_types.specs.Views.{entries_in};
 ghost use Rattle.entry_tree.specs.Adding.{IsEntryLeaf, list_entry};
 ghost use Rattle.entry_tree.specs.Rooting.{HasListAt, rooted};
 
-use crate::adding::leaf_of;
-use page_types::{Body, Entries, MOST_BODY_BYTES, Page, PostingsRef, body_length};
-use std::alloc::{AllocError, Global};
+use crate::adding::leaf_with;
+use page_types::{Body, EntryRef, MOST_BODY_BYTES, Page, PostingsRef, body_length};
+use std::alloc::AllocError;
 
 /// By how many bytes the root of a posting tree is longer than an item list of no bytes.
 const ROOT_BYTES: usize = 4 - 2;
 
-/// The item list of the entry with this number.
-fn list_at(entries: &Entries, place: usize) -> Option<&[u8]>
-    ensures some { IfSome result (λ list. (key : List ℕ)
-        × (slice_get entries.now place ≡ Some (list_entry key list.now))) }
-    ensures none { IfNone result ((key list : List ℕ)
-        → slice_get entries.now place ≡ Some (list_entry key list) → ⊥) }
+/// The key and the item list of the entry with this number.
+fn entry_at(page: &Page, place: usize) -> (&[u8], &[u8])
+    requires leaf { IsEntryLeaf page.now.body }
+    requires list { HasListAt page.now.body place }
+    ensures { slice_get (entries_in page.now.body) place
+        ≡ Some (list_entry result.0.now result.1.now) }
 {
-    match entries.get(place)?.postings {
-        PostingsRef::Inline(list) => Some(list),
-        PostingsRef::Root(_) => None,
+    let Body::EntryLeaf { entries, .. } = &page.body else {
+        unreachable!()
+    };
+    match entries.get(place) {
+        Some(
+            EntryRef {
+                key,
+                postings: PostingsRef::Inline(list),
+            },
+        ) => (key, list),
+        _ => unreachable!(),
     }
 }
 
@@ -45,16 +53,13 @@ pub fn root_at(page: &Page, place: usize, root: u32) -> Result<Option<Page>, All
     ensures is_page { IfOk result (λ o. IfSome o (λ p.
         IsPage page.now → root < page_limit → IsPage p)) }
 {
-    let Body::EntryLeaf { high, entries } = &page.body else {
-        unreachable!()
-    };
-    let Some(list) = list_at(entries, place) else {
-        unreachable!()
-    };
+    let (key, list) = entry_at(page, place);
     if body_length(page) - list.len() + ROOT_BYTES > MOST_BODY_BYTES {
         return Ok(None);
     }
-    let mut more = entries.clone()?;
-    more.set_postings(place, PostingsRef::Root(root))?;
-    Ok(Some(leaf_of(page, high, more)?))
+    let entry = EntryRef {
+        key,
+        postings: PostingsRef::Root(root),
+    };
+    Ok(Some(leaf_with(page, place, true, entry)?))
 }

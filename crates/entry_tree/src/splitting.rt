@@ -1,10 +1,12 @@
 // A page that is split.
-ghost use Rattle.std.specs.Prelude.{◌≡◌, ◌≢◌, ◌+◌, ◌^◌, ◌<◌, ◌≤◌, ◌↔◌, ℕ, suc, ◌++◌, length, take};
+ghost use Rattle.std.specs.Prelude.{◌≡◌, ◌≢◌, ◌+◌, ◌^◌, ◌<◌, ◌≤◌, ◌↔◌, ℕ, suc, List, [], ◌++◌, length, take};
 ghost use Rattle.std.specs.Prelude.{IfOk, IfSome, IfNone, IsTrue};
 ghost use Rattle.page_types.specs.Numbers.{page_limit, most_body};
 ghost use Rattle.page_types.specs.Parts.{entry_shown};
 ghost use Rattle.page_types.specs.Encoding.{entry_bytes, body_bytes, count_of};
 ghost use Rattle.page_types.specs.Pages.{IsPage};
+ghost use Rattle.page_types.specs.declared.page.Entry.{Entry};
+ghost use Rattle.page_types.specs.declared.page.EntryChild.{EntryChild};
 ghost use Rattle.page_types.specs.declared.page.Body.TheVariants as body;
 ghost use Rattle.core_state.specs.TreeRules.{KeepsHalf, FitsPage};
 ghost use Rattle.posting_code.specs.Cutting.{IsEven, IsCut};
@@ -12,8 +14,10 @@ ghost use Rattle.posting_code.specs.declared.dividing.Keep.TheVariants.{Most};
 ghost use Rattle.entry_tree.specs.Finding.{IsEntryBody};
 ghost use Rattle.entry_tree.specs.Splitting.{body_cutting, AreParts};
 ghost use Rattle.entry_tree.specs.Inner.Parts.{last_key, left_of, right_of, bytes_before, IsCutPlace};
+ghost use Rattle.entry_tree.specs.Inner.Parts.{cut_key, IsPart};
 ghost use Rattle.entry_tree.specs.Inner.Parts.{IsFirstHalf, IsLastFitting};
 
+use crate::pages::upper;
 use page_types::{
     Body, Bytes, Entries, EntryChildren, EntryRef, MOST_BODY_BYTES, Page, PostingsRef,
 };
@@ -213,101 +217,123 @@ fn place_of_cut(page: &Page, keep: Keep) -> usize
     }
 }
 
-/// The entries from one number on, before another one.
-fn entries_between(
-    alloc: Global,
+/// The key of the entry with this number; no bytes on an inner page.
+fn cut_key(page: &Page, k: usize) -> &[u8]
+    requires { k < count_of page.now.body }
+    ensures { result.now ≡ cut_key page.now.body k }
+{
+    match &page.body {
+        Body::EntryLeaf { entries, .. } => key_of(entries, k),
+        _ => &[],
+    }
+}
+
+/// Adds the entries from one number on, before another one.
+fn push_entries(
     entries: &Entries,
     from: usize,
     to: usize,
-) -> Result<Entries, AllocError>
+    part: &mut Entries,
+) -> Result<(), AllocError>
     requires order { from ≤ to }
     requires there { to ≤ length entries.now }
-    ensures { IfOk result (λ part. take from entries.now ++ part ≡ take to entries.now) }
+    requires none { part.old ≡ [] }
+    ensures { IfOk result (λ done. take from entries.now ++ part.new ≡ take to entries.now) }
 {
-    let mut part = Entries::new(alloc);
     for k in from..to {
         if let Some(entry) = entries.get(k) {
             part.push(entry)?;
         }
     }
-    Ok(part)
+    Ok(())
 }
 
-/// The children from one number on, before another one.
-fn children_between(
-    alloc: Global,
+/// Adds the children from one number on, before another one.
+fn push_children(
     children: &EntryChildren,
     from: usize,
     to: usize,
-) -> Result<EntryChildren, AllocError>
+    part: &mut EntryChildren,
+) -> Result<(), AllocError>
     requires order { from ≤ to }
     requires there { to ≤ length children.now }
-    ensures { IfOk result (λ part. take from children.now ++ part ≡ take to children.now) }
+    requires none { part.old ≡ [] }
+    ensures { IfOk result (λ done. take from children.now ++ part.new ≡ take to children.now) }
 {
-    let mut part = EntryChildren::new(alloc);
     for k in from..to {
         if let Some(child) = children.get(k) {
             part.push(child)?;
         }
     }
-    Ok(part)
+    Ok(())
 }
 
-/// The two parts of a leaf: the first one ends with the entry with this number, whose key is its high key.
-fn leaf_parts(
+/// A leaf with this high key and the entries from one number on, before another one.
+fn leaf_part(
     alloc: Global,
-    high: &Bytes,
+    high: &[u8],
     entries: &Entries,
-    k: usize,
-) -> Result<(Body, Body), AllocError>
-    requires place { IsCutPlace (body.EntryLeaf high.now entries.now) k }
-    requires few { length entries.now < 2 ^ 16 }
-    ensures left { IfOk result (λ parts. parts.0 ≡ left_of (body.EntryLeaf high.now entries.now) k) }
-    ensures right { IfOk result (λ parts. parts.1
-        ≡ right_of (body.EntryLeaf high.now entries.now) k) }
+    from: usize,
+    to: usize,
+) -> Result<Body, AllocError>
+    requires order { from ≤ to }
+    requires there { to ≤ length entries.now }
+    ensures { IfOk result (λ part. (es : List Entry)
+        × (part ≡ body.EntryLeaf high.now es) × (take from entries.now ++ es ≡ take to entries.now)) }
 {
-    let last = Bytes::from_slice(alloc, key_of(entries, k))?;
-    let high = high.clone()?;
-    let front = entries_between(alloc, entries, 0, k + 1)?;
-    let back = entries_between(alloc, entries, k + 1, entries.len())?;
-    let left = Body::EntryLeaf {
-        high: last,
-        entries: front,
-    };
-    let right = Body::EntryLeaf {
-        high,
-        entries: back,
-    };
-    Ok((left, right))
+    let high = Bytes::from_slice(alloc, high)?;
+    let mut part = Entries::new(alloc);
+    match push_entries(entries, from, to, &mut part) {
+        Ok(()) => Ok(Body::EntryLeaf {
+            high,
+            entries: part,
+        }),
+        Err(e) => {
+            drop(high);
+            drop(part);
+            Err(e)
+        }
+    }
 }
 
-/// The two parts of an inner page: the first one ends with the child with this number.
-fn inner_parts(
+/// An inner page with the children from one number on, before another one.
+fn inner_part(
     alloc: Global,
     children: &EntryChildren,
-    k: usize,
-) -> Result<(Body, Body), AllocError>
-    requires place { IsCutPlace (body.EntryInner children.now) k }
-    requires few { length children.now < 2 ^ 16 }
-    ensures left { IfOk result (λ parts. parts.0 ≡ left_of (body.EntryInner children.now) k) }
-    ensures right { IfOk result (λ parts. parts.1 ≡ right_of (body.EntryInner children.now) k) }
+    from: usize,
+    to: usize,
+) -> Result<Body, AllocError>
+    requires order { from ≤ to }
+    requires there { to ≤ length children.now }
+    ensures { IfOk result (λ part. (cs : List EntryChild)
+        × (part ≡ body.EntryInner cs) × (take from children.now ++ cs ≡ take to children.now)) }
 {
-    let left = children_between(alloc, children, 0, k + 1)?;
-    let right = children_between(alloc, children, k + 1, children.len())?;
-    Ok((Body::EntryInner(left), Body::EntryInner(right)))
+    let mut part = EntryChildren::new(alloc);
+    match push_children(children, from, to, &mut part) {
+        Ok(()) => Ok(Body::EntryInner(part)),
+        Err(e) => {
+            drop(part);
+            Err(e)
+        }
+    }
 }
 
-/// The two parts of what is on a page, of which the first one ends with the member with this number.
-fn parts_of(alloc: Global, page: &Page, k: usize) -> Result<(Body, Body), AllocError>
-    requires page { IsPage page.now }
+/// The members of a page from one number on, before another one, on a leaf with this high key.
+fn part_of(
+    alloc: Global,
+    page: &Page,
+    high: &[u8],
+    from: usize,
+    to: usize,
+) -> Result<Body, AllocError>
     requires entries { IsEntryBody page.now.body }
-    requires place { IsCutPlace page.now.body k }
-    ensures left { IfOk result (λ parts. parts.0 ≡ left_of page.now.body k) }
-    ensures right { IfOk result (λ parts. parts.1 ≡ right_of page.now.body k) }
+    requires order { from ≤ to }
+    requires there { to ≤ count_of page.now.body }
+    ensures { IfOk result (λ part. IsPart high.now from to page.now.body part) }
 {
     match &page.body {
-        Body::EntryLeaf { high, entries } => leaf_parts(alloc, high, entries, k),
-        Body::EntryInner(children) => inner_parts(alloc, children, k),
+        Body::EntryLeaf { entries, .. } => leaf_part(alloc, high, entries, from, to),
+        Body::EntryInner(children) => inner_part(alloc, children, from, to),
         _ => unreachable!(),
     }
 }
@@ -322,16 +348,25 @@ pub fn split(alloc: Global, page: &Page, new: u32, keep: Keep) -> Result<(Page, 
     ensures are_pages { IfOk result (λ pages. new ≢ 0 → new < page_limit
         → IsPage pages.0 × IsPage pages.1) }
 {
-    let (first, second) = parts_of(alloc, page, place_of_cut(page, keep))?;
-    let left = Page {
-        right: new,
-        stamp: page.stamp,
-        body: first,
-    };
-    let right = Page {
-        right: page.right,
-        stamp: page.stamp,
-        body: second,
-    };
-    Ok((left, right))
+    let k = place_of_cut(page, keep);
+    let first = part_of(alloc, page, cut_key(page, k), 0, k + 1)?;
+    match part_of(alloc, page, upper(page), k + 1, member_count(page)) {
+        Ok(second) => {
+            let left = Page {
+                right: new,
+                stamp: page.stamp,
+                body: first,
+            };
+            let right = Page {
+                right: page.right,
+                stamp: page.stamp,
+                body: second,
+            };
+            Ok((left, right))
+        }
+        Err(e) => {
+            drop(first);
+            Err(e)
+        }
+    }
 }

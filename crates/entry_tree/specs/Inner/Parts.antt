@@ -1,9 +1,10 @@
 -- Where a page is divided, by the number of the last member that stays. Members are the entries of a leaf, and the
 -- children of an inner page.
-use Rattle.std.specs.Prelude.{ℕ, suc, ◌<◌, ◌≤◌, List, [], ◌∷◌, take, drop}
+use Rattle.std.specs.Prelude.{◌≡◌, ℕ, suc, ◌<◌, ◌≤◌, List, [], ◌∷◌, ◌++◌, take, drop}
 use Rattle.std.specs.List.{flat_map}
 use Rattle.page_types.specs.Encoding.{entry_bytes, entry_child_bytes, count_of}
 use Rattle.page_types.specs.declared.page.Entry.{Entry}
+use Rattle.page_types.specs.declared.page.EntryChild.{EntryChild}
 use Rattle.page_types.specs.declared.page.Body.{Body}
 use Rattle.page_types.specs.declared.page.Body.TheVariants as body
 use Rattle.core_state.specs.TreeRules.{KeepsHalf, FitsPage}
@@ -25,6 +26,18 @@ abbrev pub right_of : Body → ℕ → Body
 right_of (body.EntryLeaf high entries) k = body.EntryLeaf high (drop (suc k) entries)
 right_of (body.EntryInner children) k = body.EntryInner (drop (suc k) children)
 right_of b k = b
+
+-- the high key of a leaf's first part, up to this member
+abbrev pub cut_key : Body → ℕ → List ℕ
+cut_key (body.EntryLeaf high entries) k = last_key (take (suc k) entries)
+cut_key _ k = []
+
+-- the members from one number on, before another one; a leaf's high key is then this one
+pub data IsPart (high : List ℕ) (from to : ℕ) : Body → Body → Type 0 where
+  leaf : (old : List ℕ) (entries part : List Entry) → take from entries ++ part ≡ take to entries
+      → IsPart high from to (body.EntryLeaf old entries) (body.EntryLeaf high part)
+  inner : (children part : List EntryChild) → take from children ++ part ≡ take to children
+      → IsPart high from to (body.EntryInner children) (body.EntryInner part)
 
 -- the bytes of the members before this one
 abbrev pub bytes_before : Body → ℕ → List ℕ

@@ -1,8 +1,8 @@
 -- A key's place among the entries of a leaf.
-use Rattle.std.specs.Prelude.{◌≡◌, ℕ, suc, ◌≤◌, Bool, true, false, List, [], ◌∷◌, ◌++◌, length, take, drop, Some}
-use Rattle.std.specs.List.{slice_get}
+use Rattle.std.specs.Prelude.{◌≡◌, ℕ, suc, ◌<◌, ◌≤◌, Bool, true, false, List, [], ◌∷◌, ◌++◌, length, take, drop, Some}
+use Rattle.std.specs.List.{slice_get, insert}
 use Rattle.page_types.specs.Keys.{KeyLess}
-use Rattle.page_types.specs.Views.{entries_in}
+use Rattle.page_types.specs.Views.{entries_in, with_postings}
 use Rattle.page_types.specs.declared.page.Entry.{Entry}
 use Rattle.page_types.specs.declared.page.Body.{Body}
 use Rattle.page_types.specs.declared.page.Body.TheVariants as body
@@ -35,3 +35,17 @@ entries_with entries key place there list =
 abbrev pub leaf_at : Body → List ℕ → ℕ → Bool → List ℕ → Body
 leaf_at content key place there list =
     body.EntryLeaf (upper_in content) (entries_with (entries_in content) key place there list)
+
+-- an entry is at the place, or may come there
+abbrev pub IsPlace : List Entry → ℕ → Bool → Type 0
+IsPlace entries place true = place < length entries
+IsPlace entries place false = place ≤ length entries
+
+-- the entry at the place has this one's postings, or this one comes there
+abbrev pub entries_put : List Entry → ℕ → Bool → Entry → List Entry
+entries_put entries place true e = with_postings entries place e.postings
+entries_put entries place false e = insert entries place e
+
+-- the leaf with it
+abbrev pub leaf_put : Body → ℕ → Bool → Entry → Body
+leaf_put content place there e = body.EntryLeaf (upper_in content) (entries_put (entries_in content) place there e)

@@ -24,25 +24,23 @@ put_one_more-requires-clause-there c =
 pub put_one_more-requires-clause-copy : goal.put_one_more-requires-clause-copy
 put_one_more-requires-clause-copy c = c.in_ok-more.ensures.cases
 
-pub returns-clause-adopted : goal.returns-clause-adopted
-returns-clause-adopted c =
+pub returns-in-Ok : goal.returns-in-Ok
+returns-in-Ok c =
+    let parent = c.args.parent.now in
     let there = c.in-Some.ensures.some in
     let more = c.put_one_more.new.more in
-    subst (λ (content : Body). EntryParent c.args.page c.args.new c.args.mid.now content (body.EntryInner more))
-    (sym c.in-EntryInner.is)
-    (is_parent c.in-EntryInner.children more c.in-Some.place c.args.page c.args.new c.args.mid.now there.0 there.1
-    there.2 c.in_ok-put_one_more.ensures)
-
-pub returns-clause-none : goal.returns-clause-none
-returns-clause-none c =
-    let there = c.in-Some.ensures.some in (
-      λ e. absurd (none-some _ (sym e)),
-      λ h. absurd (named_there c.in-EntryInner.children c.in-Some.place c.args.page there.0 there.1 there.2
-          (λ b on. h b (subst (λ (content : Body). In b (entry_children_in content)) (sym c.in-EntryInner.is) on))),
-    )
-
-pub returns-clause-is_page : goal.returns-clause-is_page
-returns-clause-is_page c = λ w div is room lt.
-    adopted_page c.args.parent.now
-    (record c.args.parent.now { body = body.EntryInner c.put_one_more.new.more }) c.args.page c.args.new
-    c.args.mid.now w refl div is room lt
+    record {
+      adopted = subst (λ (b : Body). EntryParent c.args.page c.args.new c.args.mid.now b (body.EntryInner more))
+          (sym c.in-EntryInner.is)
+          (is_parent c.in-EntryInner.children more c.in-Some.place c.args.page c.args.new c.args.mid.now there.0
+          there.1 there.2 c.in-Ok.ensures);
+      same = refl;
+      none = (
+        λ e. absurd (none-some _ (sym e)),
+        λ h. absurd (named_there c.in-EntryInner.children c.in-Some.place c.args.page there.0 there.1 there.2
+            (λ b on. h b (subst (λ (x : Body). In b (entry_children_in x)) (sym c.in-EntryInner.is) on))),
+      );
+      is_page = λ w div is room lt.
+          adopted_page parent (record parent { body = body.EntryInner more }) c.args.page c.args.new c.args.mid.now w
+          refl div is room lt;
+    }

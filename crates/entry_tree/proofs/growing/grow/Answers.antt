@@ -6,13 +6,13 @@ use Rattle.page_types.specs.declared.page.Body.TheVariants as body
 use Rattle.entry_tree.proofs.GrownPages.{only, root_is, moved_is}
 use Rattle.entry_tree.proofs.growing.grow.Goals as goal
 
-pub returns-clause-are_pages : goal.returns-clause-are_pages
-returns-clause-are_pages c =
+pub returns-in-Ok-clause-are_pages : goal.returns-in-Ok-clause-are_pages
+returns-in-Ok-clause-are_pages c =
     let page = c.args.page.now in
     let child : EntryChild = only c.args.child in
     let one : c.push.new.self ≡ child ∷ [] =
     c.in_ok-push.ensures.ok ∙ ap (λ (l : List EntryChild). l ++ child ∷ []) c.new-children.ensures in
-    let copied : c.in_ok-body.body ≡ page.body = c.in_ok-body.ensures.cases in
+    let copied : c.in-Ok.body ≡ page.body = c.in-Ok.ensures.cases in
     λ is link lt. (
       subst (λ (l : List EntryChild). IsPage (record page { body = body.EntryInner l }))
           (sym one) (root_is page c.args.child is link lt),

@@ -1,59 +1,54 @@
-use Rattle.std.proofs.Common.{◌≡◌, ◌<◌, List, length, refl, sym, ap, subst, ◌∙◌, arith}
-use Rattle.std.proofs.lemmas.Option.{slice_get_within}
+use Rattle.std.proofs.Common.{◌<◌, ◌≤◌, length, refl, sym, subst, arith}
+use Rattle.std.proofs.lemmas.Option.{none-some, slice_get_within}
+use Rattle.page_types.specs.Numbers.{most_body}
 use Rattle.page_types.specs.Pages.{IsPage}
-use Rattle.page_types.specs.Views.{with_postings}
-use Rattle.page_types.specs.declared.page.Entry.{Entry}
-use Rattle.page_types.specs.declared.page.Postings.TheVariants.{Root}
+use Rattle.page_types.specs.Encoding.{body_bytes}
+use Rattle.page_types.specs.Views.{entries_in}
 use Rattle.entry_tree.specs.Adding.{list_entry}
-use Rattle.entry_tree.proofs.RootedPages.{rooted_size, rooted_page, list_within, there_in, made_rooted}
+use Rattle.entry_tree.specs.Rooting.{rooted}
+use Rattle.entry_tree.proofs.RootedPages.{rooted_size, rooted_page, list_within, list_short}
 use Rattle.entry_tree.proofs.rooting.root_at.Goals as goal
 
 pub overflow_sub-body_length : goal.overflow_sub-body_length
 overflow_sub-body_length c =
-    let at = c.in-Some.ensures.some in
-    let within = list_within c.args.page.now.body c.args.place at.0 c.in-Some.list.now c.requires.leaf
-    (there_in c.args.page.now.body c.in-EntryLeaf.high c.in-EntryLeaf.entries c.args.place
-    (list_entry at.0 c.in-Some.list.now) c.in-EntryLeaf.is at.1) in
+    let within = list_within c.args.page.now.body c.args.place c.entry_at.result.0.now c.entry_at.result.1.now
+    c.requires.leaf c.entry_at.ensures in
     omega (arith, within, c.body_length.ensures)
 
-pub returns-then-body_length-list-gt-MOST_BODY_BYTES-clause-none :
-    goal.returns-then-body_length-list-gt-MOST_BODY_BYTES-clause-none
-returns-then-body_length-list-gt-MOST_BODY_BYTES-clause-none c =
-    let at = c.in-Some.ensures.some in
-    let size = rooted_size c.args.page.now.body c.args.place c.args.root at.0 c.in-Some.list.now c.requires.leaf
-    (there_in c.args.page.now.body c.in-EntryLeaf.high c.in-EntryLeaf.entries c.args.place
-    (list_entry at.0 c.in-Some.list.now) c.in-EntryLeaf.is at.1) in
-    let long = c.if-body_length-list-gt-MOST_BODY_BYTES.true in
-    (λ e. omega (arith, size, c.body_length.ensures, long), λ l. refl)
+pub returns-then-body_length-list-gt-MOST_BODY_BYTES : goal.returns-then-body_length-list-gt-MOST_BODY_BYTES
+returns-then-body_length-list-gt-MOST_BODY_BYTES c =
+    let content = c.args.page.now.body in
+    let key = c.entry_at.result.0.now in
+    let list = c.entry_at.result.1.now in
+    let size = rooted_size content c.args.place c.args.root key list c.requires.leaf c.entry_at.ensures in
+    let more = c.if-body_length-list-gt-MOST_BODY_BYTES.true in
+    let long : most_body < length (body_bytes (rooted content c.args.place c.args.root)) =
+    omega (arith, size, c.body_length.ensures, more) in
+    let few : length list < 2 = omega (arith, c.body_length.ensures, c.requires.fits, more) in
+    record {
+      rooted = tt;
+      none = (λ e. long, λ l. refl);
+      short = λ e k l at. list_short (entries_in content) c.args.place key list k l c.entry_at.ensures at few;
+      is_page = tt;
+    }
 
-pub set_postings-requires : goal.set_postings-requires
-set_postings-requires c =
-    let at = c.in-Some.ensures.some in
-    let copied : c.in_ok-more.more ≡ c.in-EntryLeaf.entries = c.in_ok-more.ensures.cases in
-    subst (λ (es : List Entry). c.args.place < length es) (sym copied)
-    (slice_get_within c.in-EntryLeaf.entries c.args.place (list_entry at.0 c.in-Some.list.now) at.1)
+pub leaf_with-requires-clause-place : goal.leaf_with-requires-clause-place
+leaf_with-requires-clause-place c =
+    slice_get_within (entries_in c.args.page.now.body) c.args.place
+    (list_entry c.entry_at.result.0.now c.entry_at.result.1.now) c.entry_at.ensures
 
-pub returns-clause-none : goal.returns-clause-none
-returns-clause-none c =
-    let at = c.in-Some.ensures.some in
-    let size = rooted_size c.args.page.now.body c.args.place c.args.root at.0 c.in-Some.list.now c.requires.leaf
-    (there_in c.args.page.now.body c.in-EntryLeaf.high c.in-EntryLeaf.entries c.args.place
-    (list_entry at.0 c.in-Some.list.now) c.in-EntryLeaf.is at.1) in
-    let short = c.if-body_length-list-gt-MOST_BODY_BYTES.false in
-    (λ e. cc, λ l. absurd (omega (arith, l, size, c.body_length.ensures, short)))
-
-pub returns-clause-is_page : goal.returns-clause-is_page
-returns-clause-is_page c =
+pub returns : goal.returns
+returns c =
     let page = c.args.page.now in
-    let at = c.in-Some.ensures.some in
-    let size = rooted_size page.body c.args.place c.args.root at.0 c.in-Some.list.now c.requires.leaf
-    (there_in page.body c.in-EntryLeaf.high c.in-EntryLeaf.entries c.args.place
-    (list_entry at.0 c.in-Some.list.now) c.in-EntryLeaf.is at.1) in
-    let short = c.if-body_length-list-gt-MOST_BODY_BYTES.false in
-    let copied : c.in_ok-more.more ≡ c.in-EntryLeaf.entries = c.in_ok-more.ensures.cases in
-    let made = made_rooted page c.in_ok-leaf_of.field-0 c.in-EntryLeaf.high c.in-EntryLeaf.entries
-    c.set_postings.new.self c.args.place c.args.root c.in-EntryLeaf.is c.in_ok-leaf_of.ensures
-    (c.in_ok-set_postings.ensures.ok
-    ∙ ap (λ (es : List Entry). with_postings es c.args.place (Root c.args.root)) copied) in
-    λ is within. subst IsPage (sym made) (rooted_page page c.args.place c.args.root is c.requires.leaf within
-    (omega (arith, size, c.body_length.ensures, short)))
+    let size = rooted_size page.body c.args.place c.args.root c.entry_at.result.0.now c.entry_at.result.1.now
+    c.requires.leaf c.entry_at.ensures in
+    let fits : length (body_bytes (rooted page.body c.args.place c.args.root)) ≤ most_body =
+    omega (arith, size, c.body_length.ensures, c.if-body_length-list-gt-MOST_BODY_BYTES.false) in
+    let made = c.in_ok-leaf_with.ensures in
+    record {
+      rooted = made;
+      none = (λ e. absurd (none-some _ (sym e)), λ l. absurd (omega (arith, l, fits)));
+      short = λ e. absurd (none-some _ (sym e));
+      is_page = λ is within. subst IsPage (sym made)
+          (rooted_page page c.args.place c.args.root is c.requires.leaf within fits);
+    }

@@ -1,8 +1,8 @@
 use Rattle.std.proofs.Common.{◌∙◌, arith}
 use Rattle.page_types.specs.Parts.{child_shown}
 use Rattle.entry_tree.proofs.SplitParts.{between_more}
-use Rattle.entry_tree.proofs.splitting.children_between.Goals as goal
-use Rattle.entry_tree.proofs.splitting.children_between.Goals.{in-Some+in_ok-push, in_default}
+use Rattle.entry_tree.proofs.splitting.push_children.Goals as goal
+use Rattle.entry_tree.proofs.splitting.push_children.Goals.{in-Some+in_ok-push, in_default}
 
 pub loop-k-preserved : goal.loop-k-preserved
 loop-k-preserved c = elim c.match-get.branch [
