@@ -1,7 +1,8 @@
 -- How long rows are, and pages that are packed one after the other.
-use Rattle.std.proofs.Common.{◌≡◌, ◌≢◌, ℕ, zero, suc, ◌+◌, ◌<◌, ◌≤◌, List, [], ◌∷◌, ◌++◌, length, map, take, drop}
-use Rattle.std.proofs.Common.{get_or, refl, sym, ap, subst, ◌∙◌, append_assoc, arith}
+use Rattle.std.proofs.Common.{◌≡◌, ◌≢◌, ℕ, zero, suc, ◌+◌, ◌-◌, ◌<◌, ◌≤◌, List, [], ◌∷◌, ◌++◌, length, map, take, drop}
+use Rattle.std.proofs.Common.{Bool, false, eqb, get_or, refl, sym, ap, subst, ◌∙◌, append_assoc, arith}
 use Rattle.std.specs.List.{AllByRecursion, flat_map}
+use Rattle.std.proofs.lemmas.Bool.{false≢true}
 use Rattle.std.proofs.lemmas.List.{length-append, length-map, length-take-le, take_more, take_all, drop_more}
 use Rattle.std.proofs.lemmas.List.{take-append-drop}
 use Rattle.std.proofs.lemmas.List.Concat.{flat_map-append}
@@ -106,17 +107,29 @@ first_fits (key ∷ keys) each = omega (arith, fields_one key, key_length key ea
     key_length (suc zero ∷ rest) is = omega (arith, ap length is)
     key_length (suc (suc b) ∷ rest) is = absurd is
 
--- the pages so far have the keys before the rest, of which so many fit on the next
-pub record IsPacking (item : ℕ) (keys : List (List ℕ)) (pages : List Page) (rest : List (List ℕ))
-    (count : ℕ) : Type 0 where
-  pub packs : (tail : List Page) → ArePacked item rest tail → ArePacked item keys (pages ++ tail)
-  pub some : rest ≢ []
+-- the pages so far have the keys before the rest
+pub record IsPacking (item : ℕ) (keys : List (List ℕ)) (pages : List Page) (rest : List (List ℕ)) : Type 0 where
+  pub packs : rest ≢ [] → (tail : List Page) → ArePacked item rest tail → ArePacked item keys (pages ++ tail)
+  pub ends : rest ≡ [] → ArePacked item keys pages
   pub each : AllByRecursion IsKey rest
-  pub fitting : IsFitting 0 rest count
 
-pub packing_starts : (item : ℕ) (keys : List (List ℕ)) (count : ℕ) → AreKeys keys → IsFitting 0 keys count
-    → IsPacking item keys [] keys count
-packing_starts item keys count are fit = record { packs = λ tail p. p; some = are.some; each = are.each; fitting = fit }
+pub packing_starts : (item : ℕ) (keys : List (List ℕ)) (pages : List Page) → AreKeys keys → pages ≡ []
+    → IsPacking item keys pages keys
+packing_starts item keys pages are none = record {
+  packs = λ some tail p. subst (λ (ps : List Page). ArePacked item keys (ps ++ tail)) (sym none) p;
+  ends = λ e. absurd (are.some e);
+  each = are.each;
+}
+
+-- keys are left, where they are not empty
+pub some_left : {A : Type 0} (f : A → List ℕ) (xs : List A) (none : Bool) → none ≡ eqb (length xs) 0 → none ≡ false
+    → map f xs ≢ []
+some_left f [] none is not = λ e. false≢true (sym not ∙ is)
+some_left f (x ∷ xs) none is not = λ e. absurd cc
+
+some_length : {A : Type 0} (xs : List A) → xs ≢ [] → 0 < length xs
+some_length [] some = absurd (some refl)
+some_length (x ∷ xs) some = omega arith
 
 -- where keys are left, some fit
 pub count_some : (rest : List (List ℕ)) (count : ℕ) → AllByRecursion IsKey rest → rest ≢ [] → IsFitting 0 rest count
@@ -129,39 +142,30 @@ count_some (key ∷ rest) count each some fit e =
     omega (arith, over, one, first_fits (key ∷ rest) each)
 
 pub packing_goes_on : (item : ℕ) (keys : List (List ℕ)) (pages pages' : List Page) (rest rest' : List (List ℕ))
-    (count count' : ℕ) (page : Page) → IsPacking item keys pages rest count → count < length rest
-    → page ≡ page_of_row item (take count rest) → pages' ≡ pages ++ page ∷ [] → rest' ≡ drop count rest
-    → IsFitting 0 rest' count' → IsPacking item keys pages' rest' count'
-packing_goes_on item keys pages pages' rest rest' count count' page p lt page_is pages_are rest_is fit =
-    let some = count_some rest count p.each p.some p.fitting in
+    (count : ℕ) → IsPacking item keys pages rest → rest ≢ [] → IsFitting 0 rest count
+    → pages' ≡ pages ++ page_of_row item (take count rest) ∷ [] → rest' ≡ drop count rest
+    → length rest' ≡ length rest - count → IsPacking item keys pages' rest'
+packing_goes_on item keys pages pages' rest rest' count p here fit pages_are rest_is size =
+    let some = count_some rest count p.each here fit in
     let whole : take count rest ++ drop count rest ≡ rest = take-append-drop count rest in
-    let back : AllByRecursion IsKey (drop count rest) =
-    all_back IsKey (take count rest) (drop count rest) (subst (AllByRecursion IsKey) (sym whole) p.each) in
-    let here : drop count rest ≡ get_or rest count [] ∷ drop (count + 1) rest = drop_more rest count [] lt in
+    let page : Page = page_of_row item (take count rest) in
     record {
-      packs = λ tail packed.
-          let more : ArePacked item rest (page_of_row item (take count rest) ∷ tail) =
-          packed_more item rest count tail some lt (omega (arith, p.fitting.fits some))
-          (omega (arith, p.fitting.most lt)) (subst (λ ks. ArePacked item ks tail) rest_is packed) in
-          let same : pages ++ page_of_row item (take count rest) ∷ tail ≡ pages' ++ tail =
-          ap (λ (q : Page). pages ++ q ∷ tail) (sym page_is) ∙ sym (append_assoc pages (page ∷ []) tail)
-          ∙ ap (λ (ps : List Page). ps ++ tail) (sym pages_are) in
-          subst (ArePacked item keys) same (p.packs (page_of_row item (take count rest) ∷ tail) more);
-      some = λ e. absurd (cc (e, rest_is, here));
-      each = subst (AllByRecursion IsKey) (sym rest_is) back;
-      fitting = fit;
+      packs = λ more tail packed.
+          let lt : count < length rest = omega (arith, some_length rest' more, size) in
+          let now : ArePacked item rest (page ∷ tail) =
+          packed_more item rest count tail some lt (omega (arith, fit.fits some)) (omega (arith, fit.most lt))
+          (subst (λ ks. ArePacked item ks tail) rest_is packed) in
+          subst (ArePacked item keys) (sym (append_assoc pages (page ∷ []) tail)
+          ∙ ap (λ (ps : List Page). ps ++ tail) (sym pages_are)) (p.packs here (page ∷ tail) now);
+      ends = λ none.
+          let all : take count rest ≡ rest = take_all count rest (omega (arith, size, ap length none)) in
+          let fits : row_length rest ≤ most_body =
+          subst (λ (ks : List (List ℕ)). row_length ks ≤ most_body) all (omega (arith, fit.fits some)) in
+          subst (ArePacked item keys) (ap (λ (ks : List (List ℕ)). pages ++ page_of_row item ks ∷ []) (sym all)
+          ∙ sym pages_are) (p.packs here (page_of_row item rest ∷ []) (ArePacked.last rest fits));
+      each = subst (AllByRecursion IsKey) (sym rest_is)
+          (all_back IsKey (take count rest) (drop count rest) (subst (AllByRecursion IsKey) (sym whole) p.each));
     }
-
-pub packing_ends : (item : ℕ) (keys : List (List ℕ)) (pages pages' : List Page) (rest : List (List ℕ)) (count : ℕ)
-    (page : Page) → IsPacking item keys pages rest count → length rest ≤ count → page ≡ page_of_row item rest
-    → pages' ≡ pages ++ page ∷ [] → ArePacked item keys pages'
-packing_ends item keys pages pages' rest count page p le page_is pages_are =
-    let some = count_some rest count p.each p.some p.fitting in
-    let all : take count rest ≡ rest = take_all count rest le in
-    let fits : row_length rest ≤ most_body =
-    subst (λ (ks : List (List ℕ)). row_length ks ≤ most_body) all (omega (arith, p.fitting.fits some)) in
-    subst (ArePacked item keys) (ap (λ (q : Page). pages ++ q ∷ []) (sym page_is) ∙ sym pages_are)
-    (p.packs (page_of_row item rest ∷ []) (ArePacked.last rest fits))
 
 -- ---- the pages have an encoding
 

@@ -32,17 +32,6 @@ pub(crate) fn fitting(used: usize, keys: &[Vec<u8>]) -> usize
     keys.len()
 }
 
-/// The keys, one after the other in one buffer.
-fn pieces_of(alloc: Global, keys: &[Vec<u8>]) -> Result<Pieces, AllocError>
-    ensures { IfOk result (λ pieces. pieces ≡ map (λ key. key.items) keys.now) }
-{
-    let mut pieces = Pieces::new(alloc);
-    for key in keys {
-        pieces.push(key.as_slice())?;
-    }
-    Ok(pieces)
-}
-
 /// Adds a row of these keys to others.
 pub(crate) fn push_row(
     alloc: Global,
@@ -53,21 +42,48 @@ pub(crate) fn push_row(
     ensures { IfOk result (λ done. rows.new
         ≡ rows.old ++ row_of item (map (λ key. key.items) keys.now) ∷ []) }
 {
-    let pieces = pieces_of(alloc, keys)?;
+    let mut pieces = Pieces::new(alloc);
+    for key in keys {
+        pieces.push(key.as_slice())?;
+    }
     rows.push(item, &pieces)
 }
 
-/// A page with one row of these keys, which leads to no other page.
-fn page_of_row(alloc: Global, item: u32, keys: &[Vec<u8>]) -> Result<Page, AllocError>
-    ensures { IfOk result (λ page. page ≡ page_of_row item (map (λ key. key.items) keys.now)) }
+/// Adds a page with one row of these keys, which leads to no other page.
+fn push_page(
+    alloc: Global,
+    item: u32,
+    keys: &[Vec<u8>],
+    pages: &mut Vec<Page>,
+) -> Result<(), AllocError>
+    ensures { IfOk result (λ done. pages.new.items
+        ≡ pages.old.items ++ page_of_row item (map (λ key. key.items) keys.now) ∷ []) }
 {
+    pages.reserve(1)?;
     let mut rows = Rows::new(alloc);
     push_row(alloc, item, keys, &mut rows)?;
-    Ok(Page {
+    pages.push_reserved(Page {
         right: 0,
         stamp: 0,
         body: Body::Pending(rows),
-    })
+    });
+    Ok(())
+}
+
+/// Adds pages with all these keys in their order, each with as many of those that are left as fit.
+fn pack(alloc: Global, item: u32, keys: &[Vec<u8>], pages: &mut Vec<Page>) -> Result<(), AllocError>
+    requires none { pages.old.items ≡ [] }
+    requires keys { AreKeys (map (λ key. key.items) keys.now) }
+    ensures { IfOk result (λ done.
+        ArePacked item (map (λ key. key.items) keys.now) pages.new.items) }
+{
+    let mut rest = keys;
+    while !rest.is_empty() {
+        let (front, back) = rest.split_at(fitting(0, rest));
+        push_page(alloc, item, front, pages)?;
+        rest = back;
+    }
+    Ok(())
 }
 
 /// Pages with all keys of a document in their order, one row of its item each: each but the last has
@@ -80,14 +96,6 @@ pub fn rows(alloc: Global, item: u32, keys: &[Vec<u8>]) -> Result<Vec<Page>, All
     ensures are_pages { IfOk result (λ pages. All IsPage pages.items) }
 {
     let mut pages = Vec::new(alloc);
-    let mut rest = keys;
-    let mut count = fitting(0, rest);
-    while count < rest.len() {
-        let (front, back) = rest.split_at(count);
-        pages.push(page_of_row(alloc, item, front)?)?;
-        rest = back;
-        count = fitting(0, rest);
-    }
-    pages.push(page_of_row(alloc, item, rest)?)?;
+    pack(alloc, item, keys, &mut pages)?;
     Ok(pages)
 }

@@ -2,7 +2,7 @@ use Rattle.std.proofs.Common.{ℕ, List, map, Vec, Global, arith}
 use Rattle.std.proofs.lemmas.List.{length-map}
 use Rattle.pending_list.proofs.RowLists.{read_map}
 use Rattle.pending_list.proofs.PackedRows.{piece_more}
-use Rattle.pending_list.proofs.packing.pieces_of.Goals as goal
+use Rattle.pending_list.proofs.packing.push_row.Goals as goal
 
 -- the keys' bytes
 abbrev bytes_of : Vec ℕ Global → List ℕ
