@@ -102,6 +102,13 @@ pub range_all : {A : Type 0} (P : A → Type 0) (xs : List A) (from end k : ℕ)
     → AllByRecursion P (slice_range xs from end) → from ≤ k → k < end → slice_get xs k ≡ Some x → P x
 range_all P xs from end k x all le lt e = part_all P xs from (end - from) k x all le (omega (arith, le, lt)) e
 
+-- and of each
+pub each_has : {A : Type 0} (P : A → Type 0) (xs : List A) (k : ℕ) (x : A) → AllByRecursion P xs
+    → slice_get xs k ≡ Some x → P x
+each_has P [] k x all e = absurd (let z : ⊥ = cc in z)
+each_has P (y ∷ ys) zero x all e = subst P (same_Some y x e) all.0
+each_has P (y ∷ ys) (suc k) x all e = each_has P ys k x all.1 e
+
 all_push : {A : Type 0} (P : A → Type 0) (xs : List A) (x : A) → AllByRecursion P xs → P x
     → AllByRecursion P (xs ++ x ∷ [])
 all_push P [] x all one = (one, tt)

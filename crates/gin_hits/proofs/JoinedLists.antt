@@ -2,7 +2,7 @@
 use Rattle.std.proofs.Common.{◌≡◌, ◌⊎◌, ◌↔◌, ℕ, ◌+◌, ◌<◌, ◌≤◌, true, false, List, [], ◌∷◌, ◌++◌, length, map, take}
 use Rattle.std.proofs.Common.{get_or, Bool}
 use Rattle.std.proofs.Common.{refl, sym, ap, subst, ◌∙◌, inl, inr}
-use Rattle.std.specs.Prelude.{Vec}
+use Rattle.std.specs.Prelude.{Vec, Result, Ok, Err, OnOk, is_ok, cond}
 use Rattle.std.specs.declared.alloc.Global.{Global}
 use Rattle.std.proofs.lemmas.List.{take_all, map_more}
 use Rattle.core_state.specs.Log.{In}
@@ -96,6 +96,12 @@ in_parts f g = (
     | inr a ↦ elim a [ inl b ↦ g.1 (inl (f.1 (inr b))) | inr b ↦ g.1 (inr b) ]
   ]),
 )
+
+-- a list was added, or there was no memory
+pub extended : {T E : Type 0} (r : Result T E) (old list new : List ℕ)
+    → new ≡ cond (is_ok r) (old ++ list) old → OnOk r (new ≡ old ++ list)
+extended (Ok x) old list new e = e
+extended (Err x) old list new e = tt
 
 -- the whole index was read
 pub all_items : (i : ℕ) (old new : List ℕ) (pending main : Hits) (all : Bool) → all ≡ true

@@ -58,14 +58,8 @@ impl Hits {
             ≡ trees_of trees.old.items ++ trees_under (entry_shown entry.entry ∷ [])) }
     {
         match entry.postings {
-            PostingsRef::Inline(list) => {
-                self.add_entry(asked, entry.key, list)?;
-                Ok(())
-            }
-            PostingsRef::Root(root) => {
-                add_tree(alloc, trees, entry.key, root)?;
-                Ok(())
-            }
+            PostingsRef::Inline(list) => self.add_entry(asked, entry.key, list),
+            PostingsRef::Root(root) => add_tree(alloc, trees, entry.key, root),
         }
     }
 

@@ -280,12 +280,10 @@ fn add_possible(
 {
     if all {
         items.extend_from_slice(pending.any.as_slice())?;
-        items.extend_from_slice(main.any.as_slice())?;
-        return Ok(());
+        return items.extend_from_slice(main.any.as_slice());
     }
     add_all(items, pending.by_key.as_slice())?;
-    add_all(items, main.by_key.as_slice())?;
-    Ok(())
+    add_all(items, main.by_key.as_slice())
 }
 
 /// The items that may be kept, rising.
