@@ -2,7 +2,7 @@
 use Rattle.std.proofs.Common.{◌≡◌, ℕ, suc, ◌+◌, ◌-◌, ◌*◌, ◌^◌, ◌<◌, ◌≤◌, Bool, List, length, refl, sym, ap}
 use Rattle.std.proofs.Common.{subst, ◌∙◌, inr, arith}
 use Rattle.std.proofs.Common.{get_or, slice_get}
-use Rattle.std.specs.Prelude.{Some, slice_range}
+use Rattle.std.specs.Prelude.{Result, Ok, Err, OnOk, Some, slice_range}
 use Rattle.std.proofs.lemmas.Option.{slice_get-get_or}
 use Rattle.disk_trait.specs.declared.device.Disk.{Ghosts as Disk}
 use Rattle.page_types.specs.Pages.{IsPage}
@@ -88,6 +88,40 @@ module _ {Q D : Type 0} (device : Disk D) (M : Meaning Q) (sound : JudgeIsSound 
     pub takes : TakesDocuments (M.satisfies q) c at seen (record s { heads_read = new.heads_read }) new
     pub counted : new.heads_read + at ≤ s.heads_read + end
     pub rest : new ≡ record s { names = new.names; long = new.long; heads_read = new.heads_read }
+
+  -- so where it was not refused
+  pub page_was_read : {T : Type 0} (r : Result T FrameError) (f' : FramesValue D) (new : ScanCore) (end number : ℕ)
+      (c : Page) (first : ℕ × Bool) → slice_get s.kept.items at ≡ Some first → page_of first.0 ≡ number → at < end
+      → end ≤ length s.kept.items
+      → ((k : ℕ × Bool) → slice_get s.kept.items end ≡ Some k → page_of k.0 ≡ number → ⊥)
+      → ((k item : ℕ) (sure : Bool) → at ≤ k → k < end → slice_get s.kept.items k ≡ Some (item, sure)
+      → page_of item ≡ number)
+      → IsPage c → Lies f number c → f'.journal.state ≡ f.journal.state
+      → OnOk r ((seen : List Bool)
+      × AreSeen (fate_of f'.journal.state) s.snapshot c (slice_range s.kept.items at end) seen
+      × TakesDocuments (M.satisfies q) c at seen (record s { heads_read = new.heads_read }) new)
+      → OnOk r (new.heads_read + at ≤ s.heads_read + end)
+      → OnOk r (new ≡ record s { names = new.names; long = new.long; heads_read = new.heads_read })
+      → OnOk r (HasReadPage f' new end number c)
+  page_was_read (Err e) f' new end number c first there here less within next all page lies state taken count rest = tt
+  page_was_read (Ok x) f' new end number c first there here less within next all page lies state taken count rest =
+      record {
+        first = first;
+        there = there;
+        first_here = here;
+        ordered = less;
+        within = within;
+        next = next;
+        here = all;
+        is_page = page;
+        lies = lies;
+        state = state;
+        seen = taken.0;
+        are_seen = taken.1;
+        takes = taken.2;
+        counted = count;
+        rest = rest;
+      }
 
   fewer : (s' : ScanCore) (end : ℕ) → at < end → end ≤ length s.kept.items → s'.stage ≡ stage.Heads end
       → s'.kept ≡ s.kept → steps_left s' < steps_left s

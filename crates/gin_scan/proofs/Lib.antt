@@ -32,6 +32,9 @@ mod BytesTold
 mod ListCauses
 mod ListCalls
 mod StepsOf
+mod PagesRead
+mod ChainsEnd
+mod PagesRefused
 mod HeadsSeen
 mod EndedWalks
 mod WaySteps

@@ -1,6 +1,6 @@
 -- Calls that log nothing, one after another.
-use Rattle.std.proofs.Common.{◌≤◌, suc, ◌≡◌, ◌≢◌, ℕ, [], ◌∷◌, refl, sym, subst, ◌∙◌, inl, inr, arith}
-use Rattle.std.specs.Prelude.{Result, Ok, Err, IsErrOf, IfErr, OnOk, OnErr, Option, Some, None, ◌↔◌, ⊤}
+use Rattle.std.proofs.Common.{◌≤◌, suc, ◌≡◌, ◌≢◌, ℕ, [], ◌∷◌, refl, sym, ap, subst, ◌∙◌, inl, inr, arith}
+use Rattle.std.specs.Prelude.{Result, Ok, Err, IsErrOf, IfOk, IfErr, OnOk, OnErr, Option, Some, None, ◌↔◌, ⊤}
 use Rattle.wal.specs.Waiting.{down_of}
 use Rattle.disk_trait.specs.declared.device.Disk.{Ghosts as Disk}
 use Rattle.page_types.specs.declared.page.Page.{Page}
@@ -24,6 +24,9 @@ use Rattle.buffer_frames.proofs.Added.{added_in_turn, on_by_none}
 use Rattle.gin_scan.specs.Calls.{PinsRise, AddsOnce, AddsNothing, KeepsWork, LieStill, ReadsOn}
 use Rattle.gin_scan.specs.Causes.{CannotUse, CannotRead}
 use Rattle.gin_scan.specs.Inner.Looks.{LooksOn}
+use Rattle.gin_scan.specs.Inner.Holds.{HoldsOne, GivesBack, TurnsBy}
+use Rattle.gin_scan.specs.declared.scan_core.ScanCore.{ScanCore}
+use Rattle.gin_scan.specs.declared.stage.Stage.{Stage}
 
 only : (p q : ℕ) → p ≢ q → In p (q ∷ []) → ⊥
 only p q off (inl e) = off e
@@ -236,47 +239,6 @@ module _ {D : Type 0} (device : Disk D) where
             subst (λ (h : Home). LiesAs h d) (sym (others n (only n x.page off))) (taken n d off lies)
       ]
 
-  -- nothing is read but what is held
-  pub held_back : (a b c : FramesValue D) (p q r : Pass) (x : Sheet) → AddsNothing device a b → KeepsWork p q
-      → q.pin ≡ p.pin → b.pins ≡ a.pins → KeepsOthers a b (x.page ∷ []) → Lies a x.page x.content
-      → IsPassOf c r → IsHolding device c r [] → HasAdded device b c []
-      → PassRises q r → (r.pin ≡ q.pin) × (r.room ≡ q.room) × (r.xid ≡ q.xid) → r.work ≡ q.work → RunsOn device b c
-      → KeepsState b c → Lies c x.page x.content → KeepsOthers b c (x.page ∷ [])
-      → IsCalm device b.journal c.journal → BeginsOn device b.journal c.journal → c.pins ≡ b.pins
-      → q.holds ≤ suc p.holds → r.holds ≡ q.holds → ReadsOn device a p c r
-  held_back a b c p q r x adds works pin pins taken =
-      held_back_by a b c p q r x adds works pin pins
-      (λ n d off lies. subst (λ (h : Home). LiesAs h d) (sym (taken n (only n x.page off))) lies)
-
-  -- the page is named by its number
-  pub held_at : (a b c : FramesValue D) (p q r : Pass) (x : Sheet) (page : ℕ) → x.page ≡ page
-      → AddsNothing device a b → KeepsWork p q → q.pin ≡ p.pin → b.pins ≡ a.pins → KeepsOthers a b (page ∷ [])
-      → Lies a page x.content → IsPassOf c r → IsHolding device c r [] → HasAdded device b c []
-      → PassRises q r → (r.pin ≡ q.pin) × (r.room ≡ q.room) × (r.xid ≡ q.xid) → r.work ≡ q.work → RunsOn device b c
-      → KeepsState b c → Lies c x.page x.content → KeepsOthers b c (x.page ∷ [])
-      → IsCalm device b.journal c.journal → BeginsOn device b.journal c.journal → c.pins ≡ b.pins
-      → q.holds ≤ suc p.holds → r.holds ≡ q.holds → ReadsOn device a p c r
-  held_at a b c p q r x page named adds works pin pins taken was =
-      held_back a b c p q r x adds works pin pins
-      (subst (λ (n : ℕ). KeepsOthers a b (n ∷ [])) (sym named) taken)
-      (subst (λ (n : ℕ). Lies a n x.content) (sym named) was)
-
-  -- something is read of it in between
-  pub held_and_read : (a b m c : FramesValue D) (p q n r : Pass) (x : Sheet) (page : ℕ) → x.page ≡ page
-      → AddsNothing device a b → KeepsWork p q → q.pin ≡ p.pin → b.pins ≡ a.pins → KeepsOthers a b (page ∷ [])
-      → Lies a page x.content → LooksOn device b q m n → IsPassOf c r → IsHolding device c r [] → HasAdded device m c []
-      → PassRises n r → (r.pin ≡ n.pin) × (r.room ≡ n.room) × (r.xid ≡ n.xid) → r.work ≡ n.work → RunsOn device m c
-      → KeepsState m c → Lies c x.page x.content → KeepsOthers m c (x.page ∷ [])
-      → IsCalm device m.journal c.journal → BeginsOn device m.journal c.journal → c.pins ≡ m.pins
-      → q.holds ≤ suc p.holds → r.holds ≡ n.holds → ReadsOn device a p c r
-  held_and_read a b m c p q n r x page named adds works pin pins taken was l of holding added rises same right
-      runs state lies others calm begins pins' holds =
-      held_back_by a m c p n r x (adds_then adds l.adds) (works_then p q n works l.keeps) (l.pin ∙ pin) (l.pins ∙ pins)
-      (λ k d off lies. l.lying k d (subst (λ (h : Home). LiesAs h d)
-      (sym (subst (λ (z : ℕ). KeepsOthers a b (z ∷ [])) (sym named) taken k (only k x.page off))) lies))
-      (subst (λ (k : ℕ). Lies a k x.content) (sym named) was) of holding added rises same right runs state lies others
-      calm begins pins' (omega (arith, l.holds, holds))
-
   -- a hold that isn't refused meets no fault
   pub held_calm : {T : Type 0} (i j : JournalValue D) (r : Result T FrameError) (x : T) → r ≡ Ok x
       → HoldHasCause device i j r → IsCalm device i j
@@ -301,3 +263,71 @@ module _ {D : Type 0} (device : Disk D) where
       cause_as i j r u cause
       (λ f. let z : r ≡ Err DiskFault = cc in z)
       (λ f. let z : u ≡ Err DiskFault = cc in z)
+
+  -- the page is held
+  pub hold_told : (a b : FramesValue D) (p q : Pass) (n : ℕ) (r : Result Sheet FrameError) → IsPassOf b q
+      → IfOk r (λ (x : Sheet). x.page ≡ n) → OnOk r (q.holds ≡ holds_after p.holds)
+      → IfOk r (λ (x : Sheet). Lies a n x.content) → OnOk r (KeepsOthers a b (n ∷ []))
+      → IfOk r (λ (x : Sheet). IsHolding device b q (x ∷ [])) → AddsNothing device a b → KeepsWork p q
+      → q.pin ≡ p.pin → b.pins ≡ a.pins → HoldHasCause device a.journal b.journal r
+      → IfOk r (HoldsOne device a p n b q)
+  hold_told a b p q n (Err e) of number holds lies others holding adds keeps pin pins cause = tt
+  hold_told a b p q n (Ok x) of number holds lies others holding adds keeps pin pins cause = record {
+    is_pass = of;
+    holding = holding;
+    number = number;
+    lies = lies;
+    others = λ m c off there. subst (λ (h : Home). LiesAs h c) (sym (others m (only m n off))) there;
+    adds = adds;
+    keeps = keeps;
+    pin = pin;
+    pins = pins;
+    holds = holds;
+    calm = held_calm a.journal b.journal (Ok x) x refl cause;
+  }
+
+  -- it is held while something is asked
+  pub still_holds : (a b c : FramesValue D) (p q r : Pass) (n : ℕ) (x : Sheet) → HoldsOne device a p n b q x
+      → LooksOn device b q c r → HoldsOne device a p n c r x
+  still_holds a b c p q r n x h l = record {
+    is_pass = l.is_pass;
+    holding = l.holding (x ∷ []) h.holding;
+    number = h.number;
+    lies = h.lies;
+    others = λ m d off there. l.lying m d (h.others m d off there);
+    adds = adds_then h.adds l.adds;
+    keeps = works_then p q r h.keeps l.keeps;
+    pin = l.pin ∙ h.pin;
+    pins = l.pins ∙ h.pins;
+    holds = l.holds ∙ h.holds;
+    calm = calm_then a.journal b.journal c.journal h.calm l.calm;
+  }
+
+  -- and it is given back
+  pub gives_back : (b c : FramesValue D) (q r : Pass) (x : Sheet) → IsPassOf c r → IsHolding device c r []
+      → HasAdded device b c [] → PassRises q r → (r.pin ≡ q.pin) × (r.room ≡ q.room) × (r.xid ≡ q.xid)
+      → r.work ≡ q.work → RunsOn device b c → KeepsState b c → Lies c x.page x.content
+      → KeepsOthers b c (x.page ∷ []) → IsCalm device b.journal c.journal → BeginsOn device b.journal c.journal
+      → c.pins ≡ b.pins → r.holds ≡ q.holds → GivesBack device b q x c r
+  gives_back b c q r x of holding added rises same right runs state is others calm begins pins holds = λ a p n h.
+      record {
+        reads = held_back_by a b c p q r x h.adds h.keeps h.pin h.pins
+            (λ m d off there. h.others m d (λ e. off (e ∙ sym h.number)) there)
+            (subst (λ (m : ℕ). Lies a m x.content) (sym h.number) h.lies) of holding added rises same right runs
+            state is
+            others calm begins pins (omega (arith, h.holds)) holds;
+        calm = calm_then a.journal b.journal c.journal h.calm calm;
+        holds = holds ∙ h.holds;
+      }
+
+-- what was found of a page that was read is read next, or it was refused
+pub turned_to : (next : Result Stage FrameError) (z : Stage) (old : ScanCore) (n : ℕ) → next ≡ Ok z
+    → n ≡ holds_after old.pages_read → TurnsBy next old (record old { stage = z; pages_read = n }) (Ok tt)
+turned_to next z old n is count =
+    subst (λ (r : Result Stage FrameError). TurnsBy r old (record old { stage = z; pages_read = n }) (Ok tt)) (sym is)
+    (refl, ap (λ (k : ℕ). record old { stage = z; pages_read = k }) count)
+
+pub turned_off : (next : Result Stage FrameError) (old new : ScanCore) (r : Result ⊤ FrameError) (e y : FrameError)
+    → next ≡ Err e → r ≡ Err y → y ≡ e → new.took_pin ≡ old.took_pin → TurnsBy next old new r
+turned_off next old new r e y is was same took =
+    subst (λ (z : Result Stage FrameError). TurnsBy z old new r) (sym is) (was ∙ ap Err same, took)

@@ -1,6 +1,6 @@
 // What a scan reads of heap pages.
 ghost use Rattle.std.specs.Prelude.{◌≡◌, ◌↔◌, ◌⊎◌, ℕ, ◌+◌, ◌<◌, ◌≤◌, Bool, List, Some, [], ◌∷◌};
-ghost use Rattle.std.specs.Prelude.{◌++◌, length, slice_range, IsTrue, IfErr, OnOk};
+ghost use Rattle.std.specs.Prelude.{◌++◌, length, slice_range, IsTrue, IfOk, IfErr, OnOk};
 ghost use Rattle.std.specs.List.{slice_get};
 ghost use Rattle.page_types.specs.Parts.{head_shown};
 ghost use Rattle.core_state.specs.Documents as documents;
@@ -11,7 +11,7 @@ ghost use Rattle.gin_scan.specs.Causes.{HasSlots};
 
 use crate::asks::{SeenHeads, page_of, slot_of};
 use crate::check::Check;
-use crate::scan_core::{ScanCore, hold_page, look_on, one_more};
+use crate::scan_core::{ScanCore, hold_page, look_on};
 use crate::stage::{LongVector, Stage};
 use buffer_frames::{FrameError, Frames, Pass};
 use disk_trait::Disk;
@@ -157,7 +157,7 @@ impl ScanCore {
     }
 
     /// Reads the heads of the kept items between two numbers, on their heap page, which is held and has this
-    /// number.
+    /// number. The kept items after them are next.
     fn read_page<D: Disk, Q, W: Meaning<Q>, J: Judge<Q, W>, M: Check<Q, W, J>>(
         &mut self,
         alloc: Global,
@@ -170,7 +170,7 @@ impl ScanCore {
         number: u32,
         from: usize,
         end: usize,
-    ) -> Result<(), FrameError>
+    ) -> Result<Stage, FrameError>
         requires pass { IsPassOf frames.old pass.old }
         requires serves { J.serves work.old query.now }
         requires ordered { from ≤ end }
@@ -178,6 +178,7 @@ impl ScanCore {
         ensures serves { J.serves work.new query.now }
         ensures took { self.new.took_pin ≡ self.old.took_pin }
         ensures looks { LooksOn D.Disk frames.old pass.old frames.new pass.new }
+        ensures next { IfOk result (λ next. next ≡ stages.Heads end) }
         ensures heap { OnOk result (HasSlots page.now) }
         ensures taken { OnOk result ((seen : List Bool)
             × AreSeen (fate_of frames.new.journal.state) self.old.snapshot page.now
@@ -208,7 +209,7 @@ impl ScanCore {
         let seen = answer?;
         self.heads_read = self.heads_read.saturating_add((end - from) as u64);
         self.take_documents(query, work, check, page, from, seen.as_slice())?;
-        Ok(())
+        Ok(Stage::Heads { at: end })
     }
 
     /// Reads the heap page of the kept item with this number, or ends the heads where there is none.
@@ -238,13 +239,9 @@ impl ScanCore {
         let end = end_of_page(self.kept.as_slice(), at, number);
         let held = hold_page(frames, pass, number)?;
         let page = held.page();
-        let read = self.read_page(
+        let next = self.read_page(
             alloc, frames, pass, query, work, check, page, number, at, end,
         );
-        frames.release(pass, held);
-        read?;
-        self.pages_read = one_more(self.pages_read);
-        self.stage = Stage::Heads { at: end };
-        Ok(())
+        self.leave(frames, pass, held, next)
     }
 }

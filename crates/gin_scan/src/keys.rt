@@ -12,15 +12,14 @@ ghost use Rattle.gin_hits.specs.Trees.{trees_of};
 ghost use Rattle.gin_scan.specs.Scanning.{walked_by, sought_for};
 ghost use Rattle.gin_scan.specs.Inner.Ways.{NotesEntries, NamesTrees};
 
-use crate::asks::Extent;
-use crate::scan_core::{ScanCore, hold_page, look_on, one_more};
+use crate::scan_core::{ScanCore, hold_page};
 use crate::stage::Stage;
 use buffer_frames::{FrameError, Frames, Pass};
 use disk_trait::Disk;
 use gin_hits::{Hits, TreeRoot, beyond, judge_met, key_at, toward};
 use gin_opclass::{CompareKeys, Judge, Meaning, OpClass, QueryKeys};
 use page_types::{Body, Page};
-use std::alloc::{AllocError, Global};
+use std::alloc::Global;
 
 /// The page of the tree at which each walk begins.
 const ROOT: u32 = 1;
@@ -84,8 +83,8 @@ fn note_entries<Q, W: Meaning<Q>, C: CompareKeys, J: Judge<Q, W>>(
 impl ScanCore {
     ghost use Rattle.gin_scan.specs.Causes.{HasWay};
     ghost use Rattle.gin_scan.specs.Scanning.{IsScan, sought_in};
-    ghost use Rattle.gin_scan.specs.Inner.Steps.{MayStep, HasStepped, IsStepOf};
-    ghost use Rattle.gin_scan.specs.Inner.Ways.{NotesLeaf, GoesOn, GoesToTree, IsOnWalk};
+    ghost use Rattle.gin_scan.specs.Inner.Steps.{MayStep, IsStepOf};
+    ghost use Rattle.gin_scan.specs.Inner.Notes.{PassesLeaf, NotesWay};
     ghost use Rattle.gin_scan.specs.declared.stage.Stage.TheVariants as stages;
 
     /// How many walks go through the tree: one for each key that is asked, or one for all.
@@ -96,16 +95,16 @@ impl ScanCore {
         if self.keys.all { 1 } else { self.order.len() }
     }
 
-    /// Begins the walk with this number.
-    pub(crate) fn begin_walk(&mut self, key: usize)
-        ensures begun { self.new ≡ record self.old { stage = stages.Down key 1 self.old.extent } }
-        ensures within { self.old.extent < 2 ^ 32 }
+    /// Where the walk with this number begins.
+    pub(crate) fn walk(&self, key: usize) -> Stage
+        ensures begins { result ≡ stages.Down key 1 self.now.extent }
+        ensures within { self.now.extent < 2 ^ 32 }
     {
-        self.stage = Stage::Down {
+        Stage::Down {
             key,
             page: ROOT,
             left: self.most_pages(),
-        };
+        }
     }
 
     /// Notes the entries of a leaf, which has this number, that fit what the walk with that number looks for: their
@@ -122,13 +121,7 @@ impl ScanCore {
         requires scan { IsScan self.old }
         requires page { IsPage page.now }
         ensures took { self.new.took_pin ≡ self.old.took_pin }
-        ensures leaf { OnOk result (IsLeaf page.now) }
-        ensures noted { OnOk result (NotesLeaf self.old key page.now self.new) }
-        ensures next { IfOk result (λ next. (w : Sought) → slice_get (sought_in self.old) key ≡ Some w
-            → GoesToTree self.new key (length self.old.roots.items) (walk.beyond w page.now) read next) }
-        ensures rest { OnOk result (self.new ≡ record self.old { main = self.new.main; roots = self.new.roots }) }
-        ensures lists { OnOk result
-            (length self.new.main.by_key.items ≡ length self.old.main.by_key.items) }
+        ensures noted { IfOk result (PassesLeaf self.old key page.now read self.new) }
         ensures bad { IfErr result (λ e. (e ≡ OutOfMemory) ⊎ ((e ≡ BadPage number) × (IsLeaf page.now → ⊥))) }
     {
         let from = self.roots.len();
@@ -162,11 +155,7 @@ impl ScanCore {
         requires page { IsPage page.now }
         requires read { read ≡ self.old.extent - left }
         ensures took { self.new.took_pin ≡ self.old.took_pin }
-        ensures next { IfOk result (λ next. (w : Sought) → slice_get (sought_in self.old) key ≡ Some w
-            → HasWay w page.now × GoesOn self.old key left w page.now self.new next) }
-        ensures rest { OnOk result (self.new ≡ record self.old { main = self.new.main; roots = self.new.roots }) }
-        ensures lists { OnOk result
-            (length self.new.main.by_key.items ≡ length self.old.main.by_key.items) }
+        ensures noted { IfOk result (NotesWay self.old key left page.now self.new) }
         ensures bad { IfErr result (λ e. (e ≡ OutOfMemory) ⊎ ((e ≡ BadPage number)
             × ((w : Sought) → slice_get (sought_in self.old) key ≡ Some w → HasWay w page.now → ⊥))) }
     {
@@ -179,8 +168,7 @@ impl ScanCore {
                 left,
             });
         }
-        let stage = self.pass_leaf(alloc, class, page, number, key, read)?;
-        Ok(stage)
+        self.pass_leaf(alloc, class, page, number, key, read)
     }
 
     /// Judges all items that were read. It reads no page.
@@ -192,17 +180,15 @@ impl ScanCore {
         class: &OpClass<Q, W, C, J>,
         query: &Q,
         work: &mut W,
-    ) -> Result<(), AllocError>
+    ) -> Result<(), FrameError>
         requires may { MayStep D.Disk (meaning W.asked W.all W.satisfies W.judged) query.now
             frames.now pass.now self.old }
         requires stage { (page left : ℕ)
             × (self.old.stage ≡ stages.Down (length (sought_in self.old)) page left) }
         requires serves { J.serves work.old query.now }
         ensures serves { J.serves work.new query.now }
-        ensures took { self.new.took_pin ≡ self.old.took_pin }
-        ensures stepped { OnOk result
-            (HasStepped D.Disk (meaning W.asked W.all W.satisfies W.judged) query.now frames.now
-            pass.now self.old frames.now pass.now self.new) }
+        ensures is_step { IsStepOf D.Disk (meaning W.asked W.all W.satisfies W.judged) query.now
+            frames.now pass.now self.old frames.now pass.now self.new result }
     {
         let _ = frames;
         let _ = pass;
@@ -220,33 +206,6 @@ impl ScanCore {
             &mut self.kept,
         )?;
         self.stage = Stage::Heads { at: 0 };
-        Ok(())
-    }
-
-    /// Goes on with a walk if pages go further now than when that was last asked, and else begins the next one.
-    fn go_further_on_way<D: Disk, Q, W: Meaning<Q>>(
-        &mut self,
-        frames: &mut Frames<D>,
-        pass: &mut Pass,
-        query: &Q,
-        work: &W,
-        key: usize,
-    ) -> Result<(), FrameError>
-        requires may { MayStep D.Disk (meaning W.asked W.all W.satisfies W.judged) query.now
-            frames.old pass.old self.old }
-        requires stage { IsOnWalk key 0 self.old.stage }
-        requires some { key < length (sought_in self.old) }
-        ensures is_step { IsStepOf D.Disk (meaning W.asked W.all W.satisfies W.judged) query.now
-            frames.old pass.old self.old frames.new pass.new self.new result }
-    {
-        let _ = query;
-        let _ = work;
-        let extent = look_on(frames, pass, &Extent)?;
-        if extent > self.extent {
-            self.raise_extent(extent);
-            return Ok(());
-        }
-        self.begin_walk(key + 1);
         Ok(())
     }
 
@@ -272,19 +231,16 @@ impl ScanCore {
             frames.old pass.old self.old frames.new pass.new self.new result }
     {
         if key >= self.walk_count() {
-            self.judge_all(alloc, frames, pass, class, query, work)?;
-            return Ok(());
+            return self.judge_all(alloc, frames, pass, class, query, work);
         }
         if left == 0 {
-            return self.go_further_on_way(frames, pass, query, work, key);
+            let after = self.walk(key + 1);
+            return self.go_further::<D, Q, W>(frames, pass, query, after);
         }
         let read = self.most_pages().saturating_sub(left - 1);
         let held = hold_page(frames, pass, page)?;
         let next = self.note_way(alloc, class, held.page(), page, key, left - 1, read);
-        frames.release(pass, held);
-        self.pages_read = one_more(self.pages_read);
-        self.stage = next?;
-        Ok(())
+        self.leave(frames, pass, held, next)
     }
 
     /// Reads the next leaf, or begins the next walk where there is none.
@@ -295,7 +251,6 @@ impl ScanCore {
         pass: &mut Pass,
         class: &OpClass<Q, W, C, J>,
         query: &Q,
-        work: &W,
         key: usize,
         page: u32,
         left: u32,
@@ -306,19 +261,17 @@ impl ScanCore {
         ensures is_step { IsStepOf D.Disk (meaning W.asked W.all W.satisfies W.judged) query.now
             frames.old pass.old self.old frames.new pass.new self.new result }
     {
+        let after = self.walk(key + 1);
         if page == 0 {
-            self.begin_walk(key + 1);
+            self.stage = after;
             return Ok(());
         }
         if left == 0 {
-            return self.go_further_on_way(frames, pass, query, work, key);
+            return self.go_further::<D, Q, W>(frames, pass, query, after);
         }
         let read = self.most_pages().saturating_sub(left - 1);
         let held = hold_page(frames, pass, page)?;
         let next = self.pass_leaf(alloc, class, held.page(), page, key, read);
-        frames.release(pass, held);
-        self.pages_read = one_more(self.pages_read);
-        self.stage = next?;
-        Ok(())
+        self.leave(frames, pass, held, next)
     }
 }

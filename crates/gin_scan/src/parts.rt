@@ -8,9 +8,10 @@ ghost use Rattle.core_moments.specs.Walk.{rightward};
 ghost use Rattle.buffer_frames.specs.declared.frame_error.FrameError.TheVariants.{BadPage, OutOfMemory};
 ghost use Rattle.gin_opclass.specs.Class.{meaning};
 ghost use Rattle.gin_scan.specs.Causes.{HasPart};
+ghost use Rattle.gin_scan.specs.declared.stage.Stage.TheVariants as stages;
 
 use crate::check::Check;
-use crate::scan_core::{ScanCore, hold_page, one_more};
+use crate::scan_core::{ScanCore, hold_page};
 use crate::stage::Stage;
 use buffer_frames::{FrameError, Frames, Pass};
 use disk_trait::Disk;
@@ -18,16 +19,27 @@ use gin_opclass::{Judge, Meaning};
 use page_types::{Body, Name, Page};
 use std::alloc::AllocError;
 
-/// Adds the part of a vector that is on this page, which has this number: the page that it leads to.
-fn add_part_of(page: &Page, number: u32, bytes: &mut Vec<u8>) -> Result<u32, FrameError>
-    ensures added { IfOk result (λ right. HasPart page.now × (right ≡ rightward page.now)
+/// Adds the part of the vector that waits under a number which is on this page, which has this number: the page that it
+/// leads to, of at most so many.
+fn add_part_of(
+    page: &Page,
+    number: u32,
+    bytes: &mut Vec<u8>,
+    at: usize,
+    left: u32,
+) -> Result<Stage, FrameError>
+    ensures added { IfOk result (λ next. HasPart page.now × (next ≡ stages.Parts at (rightward page.now) left)
         × (bytes.new.items ≡ bytes.old.items ++ part_of page.now)) }
     ensures cause { IfErr result (λ e. (e ≡ OutOfMemory) ⊎ ((e ≡ BadPage number) × (HasPart page.now → ⊥))) }
 {
     match &page.body {
         Body::Overflow(part) => {
             bytes.extend_from_slice(part.as_slice())?;
-            Ok(page.right)
+            Ok(Stage::Parts {
+                at,
+                page: page.right,
+                left,
+            })
         }
         _ => Err(FrameError::BadPage { page: number }),
     }
@@ -42,9 +54,8 @@ fn put_by_serial(names: &mut Vec<Name>)
 }
 
 impl ScanCore {
-    ghost use Rattle.gin_scan.specs.Inner.Steps.{MayStep, HasStepped, IsStepOf};
+    ghost use Rattle.gin_scan.specs.Inner.Steps.{MayStep, IsStepOf};
     ghost use Rattle.gin_scan.specs.Inner.Parts.{IsReadUp, BeginsLong, AddsIfTold};
-    ghost use Rattle.gin_scan.specs.declared.stage.Stage.TheVariants as stages;
 
     /// How many pages a chain has at most.
     pub(crate) fn most_pages(&self) -> u32
@@ -114,17 +125,15 @@ impl ScanCore {
         work: &mut W,
         check: &M,
         at: usize,
-    ) -> Result<(), AllocError>
+    ) -> Result<(), FrameError>
         requires may { MayStep D.Disk (meaning W.asked W.all W.satisfies W.judged) query.now
             frames.now pass.now self.old }
         requires serves { J.serves work.old query.now }
         requires stage { (page left : ℕ) × (self.old.stage ≡ stages.Parts at page left)
             × IsReadUp self.old at page left }
         ensures serves { J.serves work.new query.now }
-        ensures took { self.new.took_pin ≡ self.old.took_pin }
-        ensures stepped { OnOk result
-            (HasStepped D.Disk (meaning W.asked W.all W.satisfies W.judged) query.now frames.now
-            pass.now self.old frames.now pass.now self.new) }
+        ensures is_step { IsStepOf D.Disk (meaning W.asked W.all W.satisfies W.judged) query.now
+            frames.now pass.now self.old frames.now pass.now self.new result }
     {
         let _ = frames;
         let _ = pass;
@@ -154,18 +163,10 @@ impl ScanCore {
             frames.old pass.old self.old frames.new pass.new self.new result }
     {
         if self.is_read(at, page, left) {
-            self.match_long(frames, pass, query, work, check, at)?;
-            return Ok(());
+            return self.match_long(frames, pass, query, work, check, at);
         }
         let held = hold_page(frames, pass, page)?;
-        let right = add_part_of(held.page(), page, &mut self.bytes);
-        frames.release(pass, held);
-        self.pages_read = one_more(self.pages_read);
-        self.stage = Stage::Parts {
-            at,
-            page: right?,
-            left: left - 1,
-        };
-        Ok(())
+        let next = add_part_of(held.page(), page, &mut self.bytes, at, left - 1);
+        self.leave(frames, pass, held, next)
     }
 }

@@ -6,22 +6,22 @@ ghost use Rattle.buffer_frames.specs.declared.frame_error.FrameError.TheVariants
 ghost use Rattle.gin_opclass.specs.Class.{meaning};
 ghost use Rattle.gin_hits.specs.Rows.{first_of_rows};
 ghost use Rattle.gin_scan.specs.Causes.{HasMeta, HasRows};
+ghost use Rattle.gin_scan.specs.declared.stage.Stage.TheVariants as stages;
 
-use crate::asks::Extent;
-use crate::scan_core::{ScanCore, hold_page, look_on, one_more};
+use crate::scan_core::{ScanCore, hold_page};
 use crate::stage::Stage;
 use buffer_frames::{FrameError, Frames, Pass};
 use disk_trait::Disk;
 use gin_opclass::{CompareKeys, Judge, Meaning, OpClass};
 use page_types::{Body, Gone, Page, Rows};
 
-/// The first page of the pending list, where the page of this number is a metapage.
-fn first_pending(page: &Page, number: u32) -> Result<u32, FrameError>
-    ensures first { IfOk result (λ first. HasMeta page.now × (first ≡ first_of page.now)) }
+/// The first page of the pending list, of which so many pages may be read, where the page of this number is a metapage.
+fn first_pending(page: &Page, number: u32, left: u32) -> Result<Stage, FrameError>
+    ensures first { IfOk result (λ next. HasMeta page.now × (next ≡ stages.Pending (first_of page.now) left)) }
     ensures bad { IfErr result (λ e. (e ≡ BadPage number) × (HasMeta page.now → ⊥)) }
 {
     match &page.body {
-        Body::Meta { first, .. } => Ok(*first),
+        Body::Meta { first, .. } => Ok(Stage::Pending { page: *first, left }),
         _ => Err(FrameError::BadPage { page: number }),
     }
 }
@@ -54,9 +54,7 @@ impl ScanCore {
     ghost use Rattle.gin_hits.specs.Rows.{AreNoted};
     ghost use Rattle.gin_scan.specs.Scanning.{IsScan, asked_in};
     ghost use Rattle.gin_scan.specs.Inner.Steps.{MayStep, IsStepOf};
-    ghost use Rattle.gin_scan.specs.Inner.Ways.{stage_with};
-    ghost use Rattle.gin_scan.specs.declared.stage.Stage.TheVariants as stages;
-    ghost use Rattle.core_moments.specs.Walk.{rightward};
+    ghost use Rattle.gin_scan.specs.Inner.Notes.{NotesRows};
 
     /// Reads the metapage.
     pub(crate) fn read_meta<D: Disk, Q, W: Meaning<Q>>(
@@ -64,7 +62,6 @@ impl ScanCore {
         frames: &mut Frames<D>,
         pass: &mut Pass,
         query: &Q,
-        work: &W,
     ) -> Result<(), FrameError>
         requires may { MayStep D.Disk (meaning W.asked W.all W.satisfies W.judged) query.now
             frames.old pass.old self.old }
@@ -73,16 +70,9 @@ impl ScanCore {
             frames.old pass.old self.old frames.new pass.new self.new result }
     {
         let _ = query;
-        let _ = work;
         let held = hold_page(frames, pass, 0)?;
-        let first = first_pending(held.page(), 0);
-        frames.release(pass, held);
-        self.pages_read = one_more(self.pages_read);
-        self.stage = Stage::Pending {
-            page: first?,
-            left: self.extent,
-        };
-        Ok(())
+        let next = first_pending(held.page(), 0, self.extent);
+        self.leave(frames, pass, held, next)
     }
 
     /// The list is begun from now on: the item of the first of these rows is its first, if none was met.
@@ -98,28 +88,19 @@ impl ScanCore {
         }
     }
 
-    /// Notes the items of the rows on a page of the list, which has this number: the page that it leads to.
+    /// Notes the items of the rows on a page of the list, which has this number: the page that it leads to, of at most
+    /// so many.
     fn note_rows<Q, W: Meaning<Q>, C: CompareKeys, J: Judge<Q, W>>(
         &mut self,
         class: &OpClass<Q, W, C, J>,
         page: &Page,
         number: u32,
-    ) -> Result<u32, FrameError>
+        left: u32,
+    ) -> Result<Stage, FrameError>
         requires scan { IsScan self.old }
         requires page { IsPage page.now }
         ensures took { self.new.took_pin ≡ self.old.took_pin }
-        ensures right { IfOk result (λ right. HasRows page.now × (right ≡ rightward page.now)) }
-        ensures noted { OnOk result ((rows : List Row) → AreNoted (asked_in self.old) rows self.old.pending
-            → AreNoted (asked_in self.old) (rows ++ kept_rows_of page.now) self.new.pending) }
-        ensures first { OnOk result (self.new.first_item
-            ≡ cond self.old.has_begun self.old.first_item (first_of_rows (kept_rows_of page.now))) }
-        ensures rest { OnOk result (self.new ≡ record self.old {
-          pending = self.new.pending;
-          has_begun = true;
-          first_item = self.new.first_item;
-        }) }
-        ensures lists { OnOk result
-            (length self.new.pending.by_key.items ≡ length self.old.pending.by_key.items) }
+        ensures noted { IfOk result (NotesRows self.old page.now left self.new) }
         ensures bad { IfErr result (λ e. (e ≡ OutOfMemory)
             ⊎ ((e ≡ BadPage number) × (HasRows page.now → ⊥))) }
     {
@@ -129,48 +110,10 @@ impl ScanCore {
         self.begin_list(rows);
         self.pending
             .add_rows(class, self.keys.keys.as_slice(), rows)?;
-        Ok(page.right)
-    }
-
-    /// Pages go as far as this now, further than when that was last asked, and what was read then goes on.
-    pub(crate) fn raise_extent(&mut self, extent: u32)
-        requires further { self.old.extent < extent }
-        ensures raised { self.new ≡ record self.old {
-          stage = stage_with self.old.stage (extent - self.old.extent);
-          extent = extent;
-        } }
-        ensures within { extent < 2 ^ 32 }
-    {
-        self.stage = self.stage.with_left(extent - self.extent);
-        self.extent = extent;
-    }
-
-    /// Goes on along the list if pages go further now than when that was last asked, and else goes on to the
-    /// tree.
-    fn go_further<D: Disk, Q, W: Meaning<Q>>(
-        &mut self,
-        page: u32,
-        frames: &mut Frames<D>,
-        pass: &mut Pass,
-        query: &Q,
-        work: &W,
-    ) -> Result<(), FrameError>
-        requires may { MayStep D.Disk (meaning W.asked W.all W.satisfies W.judged) query.now
-            frames.old pass.old self.old }
-        requires stage { self.old.stage ≡ stages.Pending page 0 }
-        requires some { page ≢ 0 }
-        ensures is_step { IsStepOf D.Disk (meaning W.asked W.all W.satisfies W.judged) query.now
-            frames.old pass.old self.old frames.new pass.new self.new result }
-    {
-        let _ = query;
-        let _ = work;
-        let extent = look_on(frames, pass, &Extent)?;
-        if extent > self.extent {
-            self.raise_extent(extent);
-            return Ok(());
-        }
-        self.begin_walk(0);
-        Ok(())
+        Ok(Stage::Pending {
+            page: page.right,
+            left,
+        })
     }
 
     /// Reads the next page of the list, or goes on to the tree where there is none.
@@ -192,21 +135,16 @@ impl ScanCore {
         ensures is_step { IsStepOf D.Disk (meaning W.asked W.all W.satisfies W.judged) query.now
             frames.old pass.old self.old frames.new pass.new self.new result }
     {
+        let after = self.walk(0);
         if page == 0 {
-            self.begin_walk(0);
+            self.stage = after;
             return Ok(());
         }
         if left == 0 {
-            return self.go_further(page, frames, pass, query, work);
+            return self.go_further::<D, Q, W>(frames, pass, query, after);
         }
         let held = hold_page(frames, pass, page)?;
-        let right = self.note_rows(class, held.page(), page);
-        frames.release(pass, held);
-        self.pages_read = one_more(self.pages_read);
-        self.stage = Stage::Pending {
-            page: right?,
-            left: left - 1,
-        };
-        Ok(())
+        let next = self.note_rows(class, held.page(), page, left - 1);
+        self.leave(frames, pass, held, next)
     }
 }

@@ -8,8 +8,7 @@ ghost use Rattle.core_moments.specs.Walk as walk;
 ghost use Rattle.core_moments.specs.OpenLaws.{IsPostingPage};
 ghost use Rattle.gin_hits.specs.Entries.{posting_list_in};
 
-use crate::asks::Extent;
-use crate::scan_core::{ScanCore, hold_page, look_on, one_more};
+use crate::scan_core::{ScanCore, hold_page};
 use crate::stage::Stage;
 use buffer_frames::{FrameError, Frames, Pass};
 use disk_trait::Disk;
@@ -51,7 +50,8 @@ impl ScanCore {
     ghost use Rattle.std.specs.Prelude.{◌-◌, ◌^◌};
     ghost use Rattle.gin_scan.specs.Scanning.{IsScan};
     ghost use Rattle.gin_scan.specs.Inner.Steps.{MayStep, IsStepOf};
-    ghost use Rattle.gin_scan.specs.Inner.Ways.{NotesPosting, GoesToTree};
+    ghost use Rattle.gin_scan.specs.Inner.Notes.{NotesTree};
+    ghost use Rattle.gin_scan.specs.Inner.Ways.{GoesToTree};
     ghost use Rattle.gin_scan.specs.declared.stage.Stage.TheVariants as stages;
 
     /// What is read after a leaf, or after a posting tree: the tree with this number, or the leaf that is next where
@@ -79,57 +79,38 @@ impl ScanCore {
     }
 
     /// Notes the items on a page of the posting tree with this number, which has that page number: the page that is
-    /// next, or 0.
-    fn note_posting(&mut self, page: &Page, number: u32, at: usize) -> Result<u32, FrameError>
+    /// next, of at most so many, or 0.
+    fn note_posting(
+        &mut self,
+        page: &Page,
+        number: u32,
+        key: usize,
+        at: usize,
+        left: u32,
+        then: u32,
+        read: u32,
+    ) -> Result<Stage, FrameError>
         requires scan { IsScan self.old }
         requires page { IsPage page.now }
         requires some { at < length self.old.roots.items }
         ensures took { self.new.took_pin ≡ self.old.took_pin }
-        ensures next { IfOk result (λ next. IsPostingPage page.now × (next ≡ walk.along page.now)) }
-        ensures noted { OnOk result (NotesPosting self.old at page.now self.new) }
-        ensures rest { OnOk result (self.new ≡ record self.old { main = self.new.main }) }
-        ensures lists { OnOk result
-            (length self.new.main.by_key.items ≡ length self.old.main.by_key.items) }
+        ensures noted { IfOk result (NotesTree self.old key at left then read page.now self.new) }
         ensures bad { IfErr result (λ e. (e ≡ OutOfMemory)
             ⊎ ((e ≡ BadPage number) × (IsPostingPage page.now → ⊥))) }
     {
         let Some(list) = list_on(page) else {
             return Err(FrameError::BadPage { page: number });
         };
-        let key = self.roots[at].key.as_slice();
-        self.main.add_entry(self.keys.keys.as_slice(), key, list)?;
-        Ok(along(page))
-    }
-
-    /// Goes on with a posting tree if pages go further now than when that was last asked, and else goes on after it.
-    fn go_further_in_tree<D: Disk, Q, W: Meaning<Q>>(
-        &mut self,
-        frames: &mut Frames<D>,
-        pass: &mut Pass,
-        query: &Q,
-        work: &W,
-        key: usize,
-        at: usize,
-        page: u32,
-        then: u32,
-        read: u32,
-    ) -> Result<(), FrameError>
-        requires may { MayStep D.Disk (meaning W.asked W.all W.satisfies W.judged) query.now
-            frames.old pass.old self.old }
-        requires stage { self.old.stage ≡ stages.Posting key at page 0 then read }
-        requires some { page ≢ 0 }
-        ensures is_step { IsStepOf D.Disk (meaning W.asked W.all W.satisfies W.judged) query.now
-            frames.old pass.old self.old frames.new pass.new self.new result }
-    {
-        let _ = query;
-        let _ = work;
-        let extent = look_on(frames, pass, &Extent)?;
-        if extent > self.extent {
-            self.raise_extent(extent);
-            return Ok(());
-        }
-        self.stage = self.next_tree(key, at + 1, then, read);
-        Ok(())
+        let entry = self.roots[at].key.as_slice();
+        self.main.add_entry(self.keys.keys.as_slice(), entry, list)?;
+        Ok(Stage::Posting {
+            key,
+            at,
+            page: along(page),
+            left,
+            then,
+            read,
+        })
     }
 
     /// Reads the next page of a posting tree, or goes on after it where there is none.
@@ -138,7 +119,6 @@ impl ScanCore {
         frames: &mut Frames<D>,
         pass: &mut Pass,
         query: &Q,
-        work: &W,
         key: usize,
         at: usize,
         page: u32,
@@ -152,25 +132,16 @@ impl ScanCore {
         ensures is_step { IsStepOf D.Disk (meaning W.asked W.all W.satisfies W.judged) query.now
             frames.old pass.old self.old frames.new pass.new self.new result }
     {
+        let after = self.next_tree(key, at + 1, then, read);
         if page == 0 {
-            self.stage = self.next_tree(key, at + 1, then, read);
+            self.stage = after;
             return Ok(());
         }
         if left == 0 {
-            return self.go_further_in_tree(frames, pass, query, work, key, at, page, then, read);
+            return self.go_further::<D, Q, W>(frames, pass, query, after);
         }
         let held = hold_page(frames, pass, page)?;
-        let next = self.note_posting(held.page(), page, at);
-        frames.release(pass, held);
-        self.pages_read = one_more(self.pages_read);
-        self.stage = Stage::Posting {
-            key,
-            at,
-            page: next?,
-            left: left - 1,
-            then,
-            read,
-        };
-        Ok(())
+        let next = self.note_posting(held.page(), page, key, at, left - 1, then, read);
+        self.leave(frames, pass, held, next)
     }
 }

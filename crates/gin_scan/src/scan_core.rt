@@ -1,15 +1,15 @@
 // A scan for the queries of any class.
-ghost use Rattle.std.specs.Prelude.{◌≡◌, ◌↔◌, ℕ, suc, ◌+◌, ◌<◌, ◌≤◌, [], ◌∷◌, ⊤, true, false, map};
+ghost use Rattle.std.specs.Prelude.{◌≡◌, ◌↔◌, ℕ, ◌+◌, ◌-◌, ◌^◌, ◌<◌, ◌≤◌, [], ◌∷◌, ⊤, true, false, map};
 ghost use Rattle.std.specs.Prelude.{None, Some, IsTrue, IfOk, IfErr, OnOk, OnErr};
 ghost use Rattle.wal.specs.Waiting.{down_of};
 ghost use Rattle.buffer_frames.specs.LogCauses.{HoldHasCause};
-ghost use Rattle.buffer_frames.specs.Frames.{Lies, KeepsOthers};
-ghost use Rattle.buffer_frames.specs.Passes.{IsPassOf, IsHolding, holds_after};
+ghost use Rattle.buffer_frames.specs.Passes.{IsPassOf, IsHolding};
 ghost use Rattle.buffer_frames.specs.declared.frame_error.FrameError.TheVariants.{Down};
 ghost use Rattle.gin_opclass.specs.Class.{meaning, JudgeIsSound};
-ghost use Rattle.gin_scan.specs.Calls.{AddsNothing, KeepsWork, ReadsOn};
+ghost use Rattle.gin_scan.specs.Calls.{ReadsOn};
 ghost use Rattle.gin_scan.specs.Causes.{CannotRead};
 ghost use Rattle.gin_scan.specs.Inner.Looks.{LooksOn};
+ghost use Rattle.gin_scan.specs.Inner.Holds.{HoldsOne, GivesBack, TurnsBy};
 
 use crate::asks::Extent;
 use crate::check::Check;
@@ -69,17 +69,7 @@ pub(crate) fn hold_page<D: Disk>(
 ) -> Result<Held, FrameError>
     requires pass { IsPassOf frames.old pass.old }
     requires none { pass.old.held ≡ 0 }
-    ensures pass { IsPassOf frames.new pass.new }
-    ensures number { IfOk result (λ h. h.page ≡ page) }
-    ensures lies { IfOk result (λ h. Lies frames.old page h.content) }
-    ensures others { OnOk result (KeepsOthers frames.old frames.new (page ∷ [])) }
-    ensures holding { IfOk result (λ h. IsHolding D.Disk frames.new pass.new (h ∷ [])) }
-    ensures adds { AddsNothing D.Disk frames.old frames.new }
-    ensures keeps { KeepsWork pass.old pass.new }
-    ensures holds { pass.new.holds ≤ suc pass.old.holds }
-    ensures one { OnOk result (pass.new.holds ≡ holds_after pass.old.holds) }
-    ensures pin { pass.new.pin ≡ pass.old.pin }
-    ensures pins { frames.new.pins ≡ frames.old.pins }
+    ensures held { IfOk result (HoldsOne D.Disk frames.old pass.old page frames.new pass.new) }
     ensures fault { HoldHasCause D.Disk frames.old.journal frames.new.journal result }
 
     // The refusals: no page is held.
@@ -107,13 +97,6 @@ pub(crate) fn look_on<D: Disk, T, A: Ask<T>>(
     frames.look(pass, ask)
 }
 
-/// One page more was read. A pass counts the pages that it holds in the same way.
-pub(crate) fn one_more(pages_read: u64) -> u64
-    ensures { result ≡ holds_after pages_read }
-{
-    pages_read.saturating_add(1)
-}
-
 impl ScanCore {
     ghost use Rattle.core_state.specs.Legal.{Pin};
     ghost use Rattle.core_state.specs.Log.{Log};
@@ -129,6 +112,7 @@ impl ScanCore {
     ghost use Rattle.gin_scan.specs.Scanning.{IsAtEnd, steps_left, asked_in};
     ghost use Rattle.gin_scan.specs.Inner.Begun.{IsNewScan, IsBegun};
     ghost use Rattle.gin_scan.specs.Inner.Steps.{MayStep, IsStepOf};
+    ghost use Rattle.gin_scan.specs.Inner.Ways.{EndsAs, stage_with};
 
     /// A scan that has read nothing, for the keys of a query, of pages that go so far. It has no snapshot.
     fn new(
@@ -257,6 +241,64 @@ impl ScanCore {
         Ok(scan)
     }
 
+    /// Gives back the page that was read, and goes on to what was found to be next. A pass counts the pages that it
+    /// holds as the scan counts those that it read.
+    pub(crate) fn leave<D: Disk>(
+        &mut self,
+        frames: &mut Frames<D>,
+        pass: &mut Pass,
+        held: Held,
+        next: Result<Stage, FrameError>,
+    ) -> Result<(), FrameError>
+        requires pass { IsPassOf frames.old pass.old }
+        requires holding { IsHolding D.Disk frames.old pass.old (held ∷ []) }
+        ensures back { GivesBack D.Disk frames.old pass.old held frames.new pass.new }
+        ensures turns { TurnsBy next self.old self.new result }
+    {
+        frames.release(pass, held);
+        self.pages_read = self.pages_read.saturating_add(1);
+        self.stage = next?;
+        Ok(())
+    }
+
+    /// Pages go as far as this now, further than when that was last asked, and what was read then goes on.
+    fn raise_extent(&mut self, extent: u32)
+        requires further { self.old.extent < extent }
+        ensures raised { self.new ≡ record self.old {
+          stage = stage_with self.old.stage (extent - self.old.extent);
+          extent = extent;
+        } }
+        ensures within { extent < 2 ^ 32 }
+    {
+        self.stage = self.stage.with_left(extent - self.extent);
+        self.extent = extent;
+    }
+
+    /// Goes on with what is read if pages go further now than when that was last asked, and else goes on to this.
+    pub(crate) fn go_further<D: Disk, Q, W: Meaning<Q>>(
+        &mut self,
+        frames: &mut Frames<D>,
+        pass: &mut Pass,
+        query: &Q,
+        after: Stage,
+    ) -> Result<(), FrameError>
+        requires may { MayStep D.Disk (meaning W.asked W.all W.satisfies W.judged) query.now
+            frames.old pass.old self.old }
+        requires ends { EndsAs self.old after }
+        requires small { self.old.extent < 2 ^ 32 }
+        ensures is_step { IsStepOf D.Disk (meaning W.asked W.all W.satisfies W.judged) query.now
+            frames.old pass.old self.old frames.new pass.new self.new result }
+    {
+        let _ = query;
+        let extent = look_on(frames, pass, &Extent)?;
+        if extent > self.extent {
+            self.raise_extent(extent);
+            return Ok(());
+        }
+        self.stage = after;
+        Ok(())
+    }
+
     /// Whether no further step reads anything.
     fn is_done(&self) -> bool
         ensures { IsTrue result ↔ IsAtEnd self.now }
@@ -285,7 +327,7 @@ impl ScanCore {
     {
         let stage = self.stage;
         match stage {
-            Stage::Meta => self.read_meta(frames, pass, query, work),
+            Stage::Meta => self.read_meta::<D, Q, W>(frames, pass, query),
             Stage::Pending { page, left } => {
                 self.go_on_list(frames, pass, class, query, work, page, left)
             }
@@ -293,7 +335,7 @@ impl ScanCore {
                 self.go_on_way(alloc, frames, pass, class, query, work, key, page, left)
             }
             Stage::Leaf { key, page, left } => {
-                self.go_on_leaves(alloc, frames, pass, class, query, work, key, page, left)
+                self.go_on_leaves(alloc, frames, pass, class, query, key, page, left)
             }
             Stage::Posting {
                 key,
@@ -302,7 +344,9 @@ impl ScanCore {
                 left,
                 then,
                 read,
-            } => { self.go_on_trees(frames, pass, query, work, key, at, page, left, then, read) }
+            } => {
+                self.go_on_trees::<D, Q, W>(frames, pass, query, key, at, page, left, then, read)
+            }
             Stage::Heads { at } => { self.go_on_heads(alloc, frames, pass, query, work, check, at) }
             Stage::Parts { at, page, left } => {
                 self.go_on_long(frames, pass, query, work, check, at, page, left)

@@ -1,5 +1,5 @@
 -- What a page more of a walk through the tree adds.
-use Rattle.std.specs.Prelude.{◌≡◌, ◌≢◌, ◌⊎◌, ℕ, ◌-◌, ◌≤◌, List, [], ◌∷◌, ◌++◌, length, Some}
+use Rattle.std.specs.Prelude.{◌≡◌, ◌≢◌, ◌⊎◌, ℕ, suc, ◌-◌, ◌<◌, ◌≤◌, List, [], ◌∷◌, ◌++◌, length, Some}
 use Rattle.std.specs.List.{slice_get}
 use Rattle.page_types.specs.Views.{entries_of}
 use Rattle.page_types.specs.declared.page.Page.{Page}
@@ -58,6 +58,15 @@ GoesOn old key left w c new next =
 abbrev pub IsOnWalk : ℕ → ℕ → Stage → Type 0
 IsOnWalk key left s =
     (page : ℕ) × ((s ≡ stage.Down key page left) ⊎ ((page ≢ 0) × (s ≡ stage.Leaf key page left)))
+
+-- No page more may be read of the chain that is read, and this is read after it: the first walk after the list, the
+-- next walk, or what comes after a posting tree.
+pub data EndsAs (s : ScanCore) (z : Stage) : Type 0 where
+  list : (page : ℕ) → page ≢ 0 → s.stage ≡ stage.Pending page 0 → z ≡ stage.Down 0 1 s.extent → EndsAs s z
+  walk : (key : ℕ) → key < length (sought_in s) → IsOnWalk key 0 s.stage → z ≡ stage.Down (suc key) 1 s.extent
+      → EndsAs s z
+  tree : (key at page next read : ℕ) → page ≢ 0 → s.stage ≡ stage.Posting key at page 0 next read
+      → GoesToTree s key (suc at) next read z → EndsAs s z
 
 -- a stage with so many pages left
 abbrev pub stage_with : Stage → ℕ → Stage

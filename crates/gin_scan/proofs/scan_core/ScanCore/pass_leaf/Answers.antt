@@ -12,11 +12,7 @@ returns-in_err-then g c =
     let p = err_from_is_err_and c.from_residual.result c.from_residual.ensures.1 in
     rw (p.1, p.2) (record {
       took = refl;
-      leaf = tt;
       noted = tt;
-      next = tt;
-      rest = tt;
-      lists = tt;
       bad = c.in_err-then.ensures.bad;
     })
 
@@ -31,14 +27,15 @@ returns g c =
     (sym c.as_slice.ensures.value) here in
     let from : c.len-from.result ≡ length s.roots.items = omega (arith, c.len-from.ensures, s.roots.ok.0) in record {
       took = refl;
-      leaf = told.leaf;
-      noted = λ w here. (told.noted w (there w here), told.named w (there w here));
-      next = λ w here.
-          subst (λ (n : ℕ). GoesToTree new c.args.key (length s.roots.items) n c.args.read c.next_tree.result)
-          (told.beyond w (there w here))
-          (subst (λ (n : ℕ). GoesToTree new c.args.key n c.in_ok-then.then c.args.read c.next_tree.result) from
-          c.next_tree.ensures.goes);
-      rest = refl;
-      lists = c.note_entries.ensures.lists;
+      noted = record {
+        leaf = told.leaf;
+        noted = λ w here. (told.noted w (there w here), told.named w (there w here));
+        next = λ w here.
+            subst (λ (n : ℕ). GoesToTree new c.args.key (length s.roots.items) n c.args.read c.next_tree.result)
+            (told.beyond w (there w here))
+            (subst (λ (n : ℕ). GoesToTree new c.args.key n c.in_ok-then.then c.args.read c.next_tree.result) from
+            c.next_tree.ensures.goes);
+        main = record { rest = refl; lists = c.note_entries.ensures.lists };
+      };
       bad = tt;
     }
