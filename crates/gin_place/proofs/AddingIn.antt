@@ -9,11 +9,11 @@ use Rattle.page_types.specs.declared.page.Page.{Page}
 use Rattle.core_state.specs.Log.{In}
 use Rattle.core_state.specs.TreeRules.{TowardItem}
 use Rattle.core_state.specs.Allowed.{Sheet, Step}
-use Rattle.core_state.specs.Steps.{MayBy, sheet}
+use Rattle.core_state.specs.Steps.{sheet}
 use Rattle.core_maintenance.specs.AddedPairs.{AddedPostingsAreMain}
-use Rattle.core_maintenance.specs.Leading.{WaysHold}
-use Rattle.core_maintenance.specs.MovingSteps.{CanAddItems, CanAddPostings}
-use Rattle.core_maintenance.specs.MovingPages.{ItemsServe, PostingsServe}
+use Rattle.core_maintenance.proofs.Moves.{add_items_may, add_postings_may}
+use Rattle.core_maintenance.proofs.Serving.{items_serve, postings_serve}
+use Rattle.core_maintenance.proofs.WaysLead.{ways_hold}
 use Rattle.entry_tree.specs.Logging.{AddedItemsAreLogged}
 use Rattle.posting_tree.specs.Logging.{AddedPostingsAreLogged}
 use Rattle.buffer_frames.specs.Frames.{FramesValue}
@@ -34,13 +34,8 @@ use Rattle.gin_place.proofs.Exits.{on_ok}
 abbrev pub adding_step : Sought → ℕ → Page → Step
 adding_step t page new = record { kind = kind_by t; xid = 0; after = sheet page new ∷ [] }
 
--- what the laws of both trees say of the step
+-- what laws say of the step, of its pages and of what is under the key then
 pub record AddingLaws : Type 0 where
-  pub ways : WaysHold
-  pub items : MayBy CanAddItems
-  pub posts : MayBy CanAddPostings
-  pub items_serve : ItemsServe
-  pub posts_serve : PostingsServe
   pub items_logged : AddedItemsAreLogged
   pub posts_logged : AddedPostingsAreLogged
   pub posts_main : AddedPostingsAreMain
@@ -63,11 +58,11 @@ module _ {D : Type 0} (device : Disk D) (laws : AddingLaws) (f : FramesValue D) 
       → MayLogStep device f pass (held ∷ []) (adding_step t held.page new)
   adding_may_log sought.Key a =
       items_may_log device f pass held new key (take n items) (adds_to held.content key items new n a.reads) hold low of
-      right a.way (part_rows a.rows) laws.items laws.items_serve laws.items_logged
+      right a.way (part_rows a.rows) add_items_may items_serve laws.items_logged
   adding_may_log (sought.Item root item) a =
       posts_may_log device f pass held new key root item (take n items) (posts_to held.content items new n a.reads) hold
-      low (first_part item n items (a.first).0 a.are_items (a.first).1) of right a.way seen (part_rows a.rows) laws.ways
-      laws.posts laws.posts_serve laws.posts_logged
+      low (first_part item n items (a.first).0 a.are_items (a.first).1) of right a.way seen (part_rows a.rows) ways_hold
+      add_postings_may postings_serve laws.posts_logged
 
   pub adding_placed : (t : Sought) (f' : FramesValue D) (pass' : Pass)
       → LogsStep device f pass (held ∷ []) (adding_step t held.page new) f' pass'
@@ -78,7 +73,7 @@ module _ {D : Type 0} (device : Disk D) (laws : AddingLaws) (f : FramesValue D) 
   adding_placed (sought.Item root item) f' pass' logs a =
       posts_placed device f pass held new key root item (take n items) (posts_to held.content items new n a.reads) hold
       low (first_part item n items (a.first).0 a.are_items (a.first).1) f' pass' logs of right a.way seen
-      (part_rows a.rows) laws.ways laws.posts_logged laws.posts_main
+      (part_rows a.rows) ways_hold laws.posts_logged laws.posts_main
 
 -- a way begins at the root of the same posting tree after records
 pub way_again : {D : Type 0} (device : Disk D) (f g : FramesValue D) (p q : Pass) (ks : List ℕ)

@@ -21,7 +21,6 @@ use crate::holding::{bad_page, hold_new, hold_page};
 use crate::logging::{log_two, release, two_step};
 use crate::sought::{Sought, is_tree_page};
 use buffer_frames::{Frames, Held, Pass, Step};
-use core_maintenance::{tree_pages_serve, tree_steps_hold};
 use disk_trait::Disk;
 use entry_tree;
 use page_types::{Kind, Page, body_length};
@@ -101,8 +100,6 @@ pub(crate) fn grow_root<D: Disk>(
 {
     entry_tree::pages_may_be_logged();
     posting_tree::pages_may_be_logged();
-    tree_pages_serve();
-    tree_steps_hold();
     let root = hold_page(frames, pass, sought.root())?;
     let new = match hold_new(frames, pass) {
         Ok(new) => new,

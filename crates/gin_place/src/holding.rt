@@ -19,7 +19,6 @@ use crate::asks::{Extent, NewPage};
 use crate::error::PlaceError;
 use crate::logging::release;
 use buffer_frames::{Ask, Frames, Held, Pass};
-use core_maintenance::found_stays;
 use disk_trait::Disk;
 use page_types::PAGE_LIMIT;
 
@@ -54,7 +53,6 @@ pub fn hold_page<D: Disk>(
     ensures fine { OnOk result (MetNoFault D.Disk frames.old frames.new) }
     ensures fault { IfErr result (λ e. FaultBy D.Disk frames.old frames.new e) }
 {
-    found_stays();
     if page >= PAGE_LIMIT {
         return Err(PlaceError::BadPage { page });
     }
@@ -80,7 +78,6 @@ pub fn ask<D: Disk, T, A: Ask<T>>(
     ensures calm { IsCalm D.Disk frames.old.journal frames.new.journal }
     ensures down { IfErr result (λ e. (n : ℕ) × (e ≡ Down n) × (down_of frames.old.journal.wal ≡ Some n)) }
 {
-    found_stays();
     Ok(frames.look(pass, question)?)
 }
 

@@ -1,5 +1,5 @@
 // Records on pages that are held.
-ghost use Rattle.std.specs.Prelude.{◌≡◌, ℕ, ◌<◌, ◌≤◌, Some, List, [], ◌∷◌, IfOk, IfErr, OnOk, OnErr};
+ghost use Rattle.std.specs.Prelude.{◌≡◌, ℕ, ◌<◌, ◌≤◌, Some, List, [], ◌∷◌, ◌++◌, IfOk, IfErr, OnOk, OnErr};
 ghost use Rattle.page_types.specs.Numbers.{page_limit};
 ghost use Rattle.core_state.specs.Allowed.{Sheet as SheetValue};
 ghost use Rattle.core_state.specs.Steps.{sheet};
@@ -14,7 +14,6 @@ ghost use Rattle.gin_place.specs.Inner.Logging.{MayLogStep, LogsStep};
 
 use crate::error::PlaceError;
 use buffer_frames::{Frames, Held, Pass, Sheet, Step};
-use core_maintenance::{found_stays, placing_keeps, tree_names_hold};
 use disk_trait::Disk;
 use page_types::{Kind, Page};
 use std::alloc::{AllocError, Global};
@@ -34,7 +33,6 @@ pub fn release<D: Disk>(frames: &mut Frames<D>, pass: &mut Pass, held: Held)
     ensures calm { IsCalm D.Disk frames.old.journal frames.new.journal }
     ensures at_rest { (n : ℕ) → down_of frames.old.journal.wal ≡ Some n → frames.new.journal ≡ frames.old.journal }
 {
-    found_stays();
     frames.release(pass, held);
 }
 
@@ -54,11 +52,24 @@ fn log_pages<D: Disk>(
     ensures fine { OnOk result (MetNoFault D.Disk frames.old frames.new) }
     ensures fault { IfErr result (λ e. FaultBy D.Disk frames.old frames.new e) }
 {
-    found_stays();
-    placing_keeps();
-    tree_names_hold();
     frames.log_step(pass, pages, step)?;
     Ok(())
+}
+
+/// The step, which leaves this page too, under the number of one that is held.
+fn with_page(mut step: Step, held: &Held, page: Page) -> Result<Step, AllocError>
+    ensures step { IfOk result
+        (λ s. s ≡ record step { after = step.after ++ sheet held.now.page page ∷ [] }) }
+    ensures low { held.now.page < page_limit }
+{
+    match step.leave(Sheet::new(held.number(), page)) {
+        Ok(()) => Ok(step),
+        Err(error) => {
+            // by name it is one call, where `?` would go through all that a step has
+            drop(step);
+            Err(error)
+        }
+    }
 }
 
 /// The step of this kind that leaves this page under the number of one that is held.
@@ -70,9 +81,7 @@ pub fn one_step(alloc: Global, kind: Kind, page: (&Held, Page)) -> Result<Step, 
     }) }
     ensures low { OnOk result ((page.entry.0).now.page < page_limit) }
 {
-    let mut step = Step::new(alloc, kind, 0);
-    step.leave(Sheet::new(page.0.number(), page.1))?;
-    Ok(step)
+    with_page(Step::new(alloc, kind, 0), page.0, page.1)
 }
 
 /// The step of this kind that leaves these pages under the numbers of two that are held.
@@ -90,16 +99,13 @@ pub fn two_step(
     ensures low { OnOk result (((first.entry.0).now.page < page_limit)
         × ((second.entry.0).now.page < page_limit)) }
 {
-    let mut step = match one_step(alloc, kind, first) {
-        Ok(step) => step,
+    match one_step(alloc, kind, first) {
+        Ok(step) => with_page(step, second.0, second.1),
         Err(error) => {
-            // by name it is one call, where `?` would go through all that a page has
             drop(second.1);
-            return Err(error);
+            Err(error)
         }
-    };
-    step.leave(Sheet::new(second.0.number(), second.1))?;
-    Ok(step)
+    }
 }
 
 /// The step of this kind that leaves these pages under the numbers of three that are held.
@@ -119,15 +125,13 @@ pub(crate) fn three_step(
     ensures low { OnOk result (((first.entry.0).now.page < page_limit) × ((second.entry.0).now.page < page_limit)
         × ((third.entry.0).now.page < page_limit)) }
 {
-    let mut step = match two_step(alloc, kind, first, second) {
-        Ok(step) => step,
+    match two_step(alloc, kind, first, second) {
+        Ok(step) => with_page(step, third.0, third.1),
         Err(error) => {
             drop(third.1);
-            return Err(error);
+            Err(error)
         }
-    };
-    step.leave(Sheet::new(third.0.number(), third.1))?;
-    Ok(step)
+    }
 }
 
 /// Logs a step on one page that is held; it is given back.

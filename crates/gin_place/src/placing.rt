@@ -35,10 +35,7 @@ use crate::rooting::make_tree;
 use crate::sought::{ROOT, Sought};
 use crate::splitting::split_page;
 use buffer_frames::{Frames, Held, Pass};
-use core_maintenance::{
-    added_items_are_main, found_stays, moving_pages_serve, moving_steps_hold, ways_lead,
-};
-use core_state::bullets_hold;
+use core_maintenance::added_items_are_main;
 use disk_trait::Disk;
 use gin_opclass::{CompareKeys, Judge, Meaning, OpClass};
 use page_types::{Kind, Page};
@@ -112,10 +109,7 @@ fn log_items<D: Disk>(
 {
     entry_tree::pages_may_be_logged();
     posting_tree::pages_may_be_logged();
-    moving_pages_serve();
-    moving_steps_hold();
     added_items_are_main();
-    ways_lead();
     match one_step(alloc, adds_by(sought), (&held, new)) {
         Ok(step) => log_one(alloc, frames, pass, held, step),
         Err(_) => {
@@ -165,8 +159,6 @@ impl Placing {
     {
         entry_tree::found_leads_down();
         posting_tree::found_leads_down();
-        found_stays();
-        ways_lead();
         let Stage::At {
             sought,
             parent,
@@ -217,8 +209,6 @@ impl Placing {
             → IsReadingIn sought held.content key (drop self.old.from items.now) (readings.Added new count)
             → HasStepped D.Disk frames.old pass.old frames.new pass.new key items.now self.old self.new result }
     {
-        bullets_hold();
-        ways_lead();
         log_items(alloc, frames, pass, held, new, sought)?;
         Ok(self.put(count, sought, items))
     }
@@ -241,8 +231,6 @@ impl Placing {
             → IsReadingIn t held.content key (drop self.old.from items.now) (readings.Long place)
             → HasStepped D.Disk frames.old pass.old frames.new pass.new key items.now self.old self.new result }
     {
-        bullets_hold();
-        ways_lead();
         let root = make_tree(alloc, frames, pass, held, place)?;
         Ok(self.seek(Some(root), items))
     }
@@ -267,9 +255,6 @@ impl Placing {
         ensures { HoldsAt D.Disk frames.old pass.old key.now items.now self.old sought parent page held
             → HasStepped D.Disk frames.old pass.old frames.new pass.new key.now items.now self.old self.new result }
     {
-        found_stays();
-        bullets_hold();
-        ways_lead();
         full_pages_are_large();
         release(frames, pass, held);
         if self.making_room {
@@ -313,8 +298,6 @@ impl Placing {
         ensures fine { OnOk result (MetNoFault D.Disk frames.old frames.new) }
         ensures fault { IfErr result (λ e. FaultBy D.Disk frames.old frames.new e) }
     {
-        found_stays();
-        ways_lead();
         let (held, extent) = hold_seen(frames, pass, page)?;
         let left = self.left.unwrap_or(extent);
         if left == 0 {

@@ -18,7 +18,6 @@ use crate::error::PlaceError;
 use crate::holding::hold_new;
 use crate::logging::{log_two, release, two_step};
 use buffer_frames::{Frames, Held, Pass, Step};
-use core_maintenance::{tree_pages_serve, tree_steps_hold};
 use disk_trait::Disk;
 use entry_tree::root_at;
 use page_types::{Body, Kind, Page, PostingsRef};
@@ -90,8 +89,6 @@ pub(crate) fn make_tree<D: Disk>(
     ensures fault { IfErr result (λ e. FaultBy D.Disk frames.old frames.new e) }
 {
     pages_may_be_logged();
-    tree_pages_serve();
-    tree_steps_hold();
     let new = match hold_new(frames, pass) {
         Ok(new) => new,
         Err(error) => {

@@ -32,7 +32,6 @@ use crate::logging::{Three, give_back, log_three, release, three_step};
 use crate::posting_splits;
 use crate::sought::Sought;
 use buffer_frames::{Frames, Held, Pass, Step};
-use core_maintenance::{tree_pages_serve, tree_steps_hold};
 use disk_trait::Disk;
 use entry_tree::{Found, adopt, find, has_room, pages_may_be_logged, split, upper};
 use gin_opclass::{CompareKeys, Judge, Meaning, OpClass};
@@ -344,8 +343,6 @@ pub(crate) fn split_page<D: Disk, Q, W: Meaning<Q>, C: CompareKeys, J: Judge<Q, 
 {
     pages_may_be_logged();
     posting_tree::pages_may_be_logged();
-    tree_pages_serve();
-    tree_steps_hold();
     let three = hold_three(frames, pass, parent, page)?;
     match split_step(alloc, class, key, sought, &three) {
         Ok(step) => log_three(alloc, frames, pass, three, step),

@@ -2,6 +2,8 @@ use Rattle.std.proofs.Common.{ℕ, [], ◌∷◌, ◌∙◌, refl, sym, subst, a
 use Rattle.std.proofs.lemmas.Result.{err_from_is_err_and}
 use Rattle.page_types.specs.Records.{kind_number}
 use Rattle.page_types.specs.declared.record.Kind.{Kind}
+use Rattle.core_maintenance.proofs.TreePages.{grown_pages_serve}
+use Rattle.core_maintenance.proofs.TreeSteps.{grow_root_may}
 use Rattle.buffer_frames.specs.Frames.{Lies}
 use Rattle.buffer_frames.proofs.AtHand.{none_held}
 use Rattle.buffer_frames.proofs.Exits.{on_refusal}
@@ -123,7 +125,7 @@ log_two-requires g c =
     c.in-Ok-grow_step.step e.step h2 e.can.0 e.can.1 (c.in_ok-root.ensures.number ∙ c.root.ensures)
     (r2.roots t c.requires.root) e.low.0 e.low.1 r2.works.is_pass
     (right_on g.D.Disk c.args.frames.now c.hold_new.new.frames c.args.pass.now c.hold_new.new.pass [] c.requires.right
-    r2.works) c.tree_steps_hold.ensures.grow_root c.tree_pages_serve.ensures.grown c.pages_may_be_logged.ensures.grown
+    r2.works) grow_root_may grown_pages_serve c.pages_may_be_logged.ensures.grown
     c.pages_may_be_logged-2.ensures.grown c.in-Ok.ensures.new
 
 pub returns-in-Ok-grow_step : goal.returns-in-Ok-grow_step

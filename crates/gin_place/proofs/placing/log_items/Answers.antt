@@ -11,11 +11,6 @@ log_one-requires g c =
     let h = c.args.held in
     let t = c.args.sought in
     let laws : AddingLaws = record {
-      ways = c.ways_lead.ensures;
-      items = c.moving_steps_hold.ensures.add_items;
-      posts = c.moving_steps_hold.ensures.add_postings;
-      items_serve = c.moving_pages_serve.ensures.items;
-      posts_serve = c.moving_pages_serve.ensures.postings;
       items_logged = c.pages_may_be_logged.ensures.added;
       posts_logged = c.pages_may_be_logged-2.ensures.added;
       posts_main = c.added_items_are_main.ensures.postings;
@@ -28,52 +23,47 @@ log_one-requires g c =
     (adding_may_log g.D.Disk laws c.args.frames.now c.args.pass.now h c.args.new c.requires.holding c.in-Ok.ensures.low
     c.requires.pass c.requires.right c.requires.seen a.0 a.1 a.2 t a.3)
 
-pub returns-in-Ok-clause-placed : goal.returns-in-Ok-clause-placed
-returns-in-Ok-clause-placed g c =
+pub returns-in-Ok : goal.returns-in-Ok
+returns-in-Ok g c =
     let h = c.args.held in
     let t = c.args.sought in
-    let made : c.in-Ok.step ≡ adding_step t h.page c.args.new =
-    c.in-Ok.ensures.step
-    ∙ ap (λ (k : Kind). record { kind = k; xid = 0; after = sheet h.page c.args.new ∷ [] }) c.adds_by.ensures in
+    let f = c.args.frames.now in
+    let last = c.log_one.new.frames in
+    let pass = c.log_one.new.pass in
+    let e = c.log_one.ensures in
     let laws : AddingLaws = record {
-      ways = c.ways_lead.ensures;
-      items = c.moving_steps_hold.ensures.add_items;
-      posts = c.moving_steps_hold.ensures.add_postings;
-      items_serve = c.moving_pages_serve.ensures.items;
-      posts_serve = c.moving_pages_serve.ensures.postings;
       items_logged = c.pages_may_be_logged.ensures.added;
       posts_logged = c.pages_may_be_logged-2.ensures.added;
       posts_main = c.added_items_are_main.ensures.postings;
     } in
-    then_placed g.D.Disk c.args.frames.now c.args.pass.now h c.args.new t c.in-Ok.step made c.log_one.result
-    c.log_one.new.frames c.log_one.new.pass c.log_one.ensures.logged laws c.requires.holding c.in-Ok.ensures.low
-    c.requires.pass c.requires.right c.requires.seen
-
-pub returns-in-Ok-clause-ways : goal.returns-in-Ok-clause-ways
-returns-in-Ok-clause-ways g c =
-    let h = c.args.held in
-    let t = c.args.sought in
     let made : c.in-Ok.step ≡ adding_step t h.page c.args.new =
     c.in-Ok.ensures.step
     ∙ ap (λ (k : Kind). record { kind = k; xid = 0; after = sheet h.page c.args.new ∷ [] }) c.adds_by.ensures in
-    then_ways g.D.Disk c.args.frames.now c.args.pass.now h c.args.new t c.in-Ok.step made c.log_one.result
-    c.log_one.new.frames c.log_one.new.pass c.log_one.ensures.logged
+    record {
+      none_held = e.none_held;
+      placed = then_placed g.D.Disk f c.args.pass.now h c.args.new t c.in-Ok.step made c.log_one.result last pass
+          e.logged laws c.requires.holding c.in-Ok.ensures.low c.requires.pass c.requires.right c.requires.seen;
+      ways = then_ways g.D.Disk f c.args.pass.now h c.args.new t c.in-Ok.step made c.log_one.result last pass e.logged;
+      works = then_works g.D.Disk f c.args.pass.now h c.args.new t c.in-Ok.step made c.log_one.result last pass
+          e.logged;
+      refused = e.refused;
+      cause = e.cause;
+      fine = e.fine;
+      fault = e.fault;
+    }
 
-pub returns-in-Ok-clause-works : goal.returns-in-Ok-clause-works
-returns-in-Ok-clause-works g c =
-    let h = c.args.held in
-    let t = c.args.sought in
-    let made : c.in-Ok.step ≡ adding_step t h.page c.args.new =
-    c.in-Ok.ensures.step
-    ∙ ap (λ (k : Kind). record { kind = k; xid = 0; after = sheet h.page c.args.new ∷ [] }) c.adds_by.ensures in
-    then_works g.D.Disk c.args.frames.now c.args.pass.now h c.args.new t c.in-Ok.step made c.log_one.result
-    c.log_one.new.frames c.log_one.new.pass c.log_one.ensures.logged
+pub release-requires : goal.release-requires
+release-requires g c =
+    record { pass = c.requires.pass; right = c.requires.right; holding = ([], c.requires.holding) }
 
-pub release-requires-clause-holding : goal.release-requires-clause-holding
-release-requires-clause-holding g c = ([], c.requires.holding)
-
-pub returns-in-Err-clause-none_held : goal.returns-in-Err-clause-none_held
-returns-in-Err-clause-none_held g c = sym (c.release.ensures.holding [] c.requires.holding).all
-
-pub returns-in-Err-clause-fault : goal.returns-in-Err-clause-fault
-returns-in-Err-clause-fault g c = calm_fine g.D.Disk c.args.frames.now c.release.new.frames c.release.ensures.calm
+pub returns-in-Err : goal.returns-in-Err
+returns-in-Err g c = record {
+  none_held = sym (c.release.ensures.holding [] c.requires.holding).all;
+  placed = tt;
+  ways = tt;
+  works = tt;
+  refused = c.release.ensures.reads;
+  cause = tt;
+  fine = tt;
+  fault = calm_fine g.D.Disk c.args.frames.now c.release.new.frames c.release.ensures.calm;
+}

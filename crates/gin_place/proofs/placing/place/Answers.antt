@@ -21,26 +21,15 @@ loop-init g c =
             (same_added g.D.Disk c.args.frames.now)).works,
       );
       none_held = c.requires.none;
+      is_pass = c.requires.pass;
+      right = c.requires.right;
+      rows = c.requires.rows;
       fine = fine_still g.D.Disk c.args.frames.now;
       placing = subst (IsPlacing g.D.Disk c.args.frames.now c.args.pass.now c.args.key.now c.args.items.now)
           (sym c.begin-placing.ensures)
           (begins_placing g.D.Disk c.args.frames.now c.args.pass.now c.args.key.now c.args.items.now);
       standing = rests_first g.D.Disk c.args.frames.now c.args.pass.now c.args.key.now c.args.items.now c.requires.pass
           c.begin-placing.result (ap (λ (s : Placing). s.making_room) c.begin-placing.ensures);
-    }
-
-pub step-requires : goal.step-requires
-step-requires g c =
-    let was = c.loop.invariant in
-    record {
-      pass = was.works.1.is_pass;
-      right = right_on g.D.Disk c.args.frames.now c.loop.frames c.args.pass.now c.loop.pass was.works.0 c.requires.right
-          was.works.1;
-      none = was.none_held;
-      key = c.requires.key;
-      items = c.requires.items;
-      rows = λ i on. was.works.1.pairs.pending c.args.key.now i (c.requires.rows i on);
-      placing = was.placing;
     }
 
 pub loop-preserved : goal.loop-preserved
@@ -52,6 +41,10 @@ loop-preserved g c =
     record {
       works = (was.works.0 ++ e.works.0, all);
       none_held = e.none_held;
+      is_pass = all.is_pass;
+      right = right_on g.D.Disk c.loop.frames c.step.new.frames c.loop.pass c.step.new.pass e.works.0 was.right
+          e.works.2;
+      rows = λ i on. e.works.2.pairs.pending c.args.key.now i (was.rows i on);
       fine = fine_then g.D.Disk c.args.frames.now c.loop.frames c.step.new.frames was.fine e.fine;
       placing = e.placing;
       standing = rests_on g.D.Disk c.args.frames.now c.args.pass.now c.args.key.now c.args.items.now c.loop.frames

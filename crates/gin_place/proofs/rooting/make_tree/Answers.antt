@@ -2,6 +2,8 @@ use Rattle.std.proofs.Common.{ℕ, List, [], ◌∷◌, sym, subst, arith}
 use Rattle.std.proofs.lemmas.Result.{err_from_is_err_and}
 use Rattle.page_types.specs.Records.{kind_number}
 use Rattle.page_types.specs.declared.record.Kind.{Kind}
+use Rattle.core_maintenance.proofs.TreePages.{tree_pages_serve}
+use Rattle.core_maintenance.proofs.TreeSteps.{make_tree_may}
 use Rattle.buffer_frames.proofs.Exits.{on_refusal}
 use Rattle.gin_place.specs.Going.{WorksOn}
 use Rattle.gin_place.specs.Placing.{IsOnWay}
@@ -69,7 +71,7 @@ log_two-requires g c =
     tree_may_log g.D.Disk c.hold_new.new.frames c.hold_new.new.pass c.args.held c.in-Ok.new c.args.place
     c.in-Ok-tree_step.step made hold low.0 low.1 r.works.is_pass
     (right_on g.D.Disk c.args.frames.now c.hold_new.new.frames c.args.pass.now c.hold_new.new.pass [] c.requires.right
-    r.works) c.tree_steps_hold.ensures.make_tree c.tree_pages_serve.ensures.made c.pages_may_be_logged.ensures.first
+    r.works) make_tree_may tree_pages_serve c.pages_may_be_logged.ensures.first
     c.in-Ok.ensures.new
 
 pub returns-in_err-log_two-in-Ok-tree_step : goal.returns-in_err-log_two-in-Ok-tree_step

@@ -1,5 +1,7 @@
 use Rattle.std.proofs.Common.{◌≡◌, ℕ, Err, drop, sym, ap, subst, ◌∙◌, arith, length-drop}
 use Rattle.std.proofs.lemmas.Result.{err_from_is_err_and}
+use Rattle.core_state.proofs.LawsHold.{bullets}
+use Rattle.core_maintenance.proofs.WaysLead.{ways_hold}
 use Rattle.buffer_frames.specs.Passes.{Seen}
 use Rattle.gin_place.specs.Stepping.{HasStepped}
 use Rattle.gin_place.proofs.ReadingsIn.{added_few}
@@ -47,7 +49,7 @@ pub returns : goal.returns
 returns g c = λ key parent page at reads.
     let e = c.in_ok-log_items.ensures in
     added_on g.D.Disk c.args.frames.now c.args.pass.now key c.args.items.now c.args.self.now c.args.sought parent page
-    c.args.held at c.bullets_hold.ensures c.ways_lead.ensures c.args.new c.args.count reads c.log_items.new.frames
+    c.args.held at bullets ways_hold c.args.new c.args.count reads c.log_items.new.frames
     c.log_items.new.pass c.log_items.ensures.none_held e.works
     (e.placed key (drop c.args.self.now.from c.args.items.now) c.args.count
     (adds_at g.D.Disk c.args.frames.now c.args.pass.now key c.args.items.now c.args.self.now c.args.sought parent page

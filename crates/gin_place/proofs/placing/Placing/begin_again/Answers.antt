@@ -1,6 +1,9 @@
 use Rattle.std.proofs.Common.{ℕ, [], ◌∷◌, true, false, Err, sym, ap, subst, ◌∙◌, ◌≡◌, rules}
 use Rattle.std.proofs.lemmas.Result.{err_from_is_err_and}
 use Rattle.std.specs.Prelude.{Option}
+use Rattle.core_state.proofs.LawsHold.{bullets}
+use Rattle.core_maintenance.proofs.Found.{right_keeps_found}
+use Rattle.core_maintenance.proofs.WaysLead.{ways_hold}
 use Rattle.page_space.specs.Taking.{HasNoPage}
 use Rattle.gin_place.specs.Stepping.{HasStepped}
 use Rattle.gin_place.specs.Inner.Stepping.{Seeks}
@@ -40,7 +43,7 @@ returns-in_err-make_room g c = λ r.
     subst (HasStepped g.D.Disk c.args.frames.now c.args.pass.now c.make_room.new.frames c.make_room.new.pass
     c.args.key.now c.args.items.now c.args.self.now c.args.self.now) (sym (p.1 ∙ ap Err p.2))
     (not_roomy g.D.Disk c.args.frames.now c.args.pass.now c.args.key.now c.args.items.now c.args.self.now c.args.sought
-    c.args.parent c.args.page c.args.held r c.found_stays.ensures.right c.full_pages_are_large.ensures.leaf
+    c.args.parent c.args.page c.args.held r right_keeps_found c.full_pages_are_large.ensures.leaf
     c.full_pages_are_large.ensures.inner (search (rules, c.if-self.true)) c.requires.full c.release.new.frames
     c.make_room.new.frames c.release.new.pass c.make_room.new.pass back fine all c.make_room.ensures.none_held w e.cause
     (told_then g.D.Disk c.args.frames.now c.release.new.frames c.make_room.new.frames w fine e.fault))
@@ -67,7 +70,7 @@ returns g c = λ r.
     let back = c.release.ensures.reads in
     let first : c.args.self.now.making_room ≡ false = search (rules, c.if-self.false) in
     room_wanted g.D.Disk c.args.frames.now c.args.pass.now c.args.key.now c.args.items.now c.args.self.now c.args.sought
-    c.args.parent c.args.page c.args.held r c.bullets_hold.ensures c.ways_lead.ensures first c.requires.full
+    c.args.parent c.args.page c.args.held r bullets ways_hold first c.requires.full
     (c.requires.leaf first) c.release.new.frames c.release.new.pass (sym (c.release.ensures.holding [] r.holding).all)
     back.works (calm_fine g.D.Disk c.args.frames.now c.release.new.frames c.release.ensures.calm) c.seek-2.new.self
     c.seek-2.result

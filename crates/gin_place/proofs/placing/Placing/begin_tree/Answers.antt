@@ -1,5 +1,7 @@
 use Rattle.std.proofs.Common.{Err, drop, sym, ap, subst, ◌∙◌}
 use Rattle.std.proofs.lemmas.Result.{err_from_is_err_and}
+use Rattle.core_state.proofs.LawsHold.{bullets}
+use Rattle.core_maintenance.proofs.WaysLead.{ways_hold}
 use Rattle.gin_place.specs.Stepping.{HasStepped}
 use Rattle.gin_place.proofs.Arms.{long_at, not_begun, tree_begun}
 use Rattle.gin_place.proofs.placing.Placing.begin_tree.Goals as goal
@@ -29,7 +31,7 @@ pub returns : goal.returns
 returns g c = λ key t parent page at reads.
     let e = c.in_ok-root.ensures in
     tree_begun g.D.Disk c.args.frames.now c.args.pass.now key c.args.items.now c.args.self.now t parent page
-    c.args.held at c.bullets_hold.ensures c.ways_lead.ensures c.args.place reads c.make_tree.new.frames
+    c.args.held at bullets ways_hold c.args.place reads c.make_tree.new.frames
     c.make_tree.new.pass c.make_tree.ensures.none_held e.works c.in_ok-root.root
     (λ told up R stands legal P shown.
     (e.named key 0 (long_at c.args.held.content key (drop c.args.self.now.from c.args.items.now) t c.args.place reads)

@@ -2,6 +2,8 @@ use Rattle.std.proofs.Common.{◌≡◌, ℕ, [], false, Err, drop, refl, sym, a
 use Rattle.std.proofs.lemmas.Result.{err_from_is_err_and}
 use Rattle.page_types.specs.Pages.{IsPage}
 use Rattle.page_types.specs.declared.page.Page.{Page}
+use Rattle.core_maintenance.proofs.Found.{right_keeps_found}
+use Rattle.core_maintenance.proofs.WaysLead.{ways_hold}
 use Rattle.buffer_frames.specs.Passes.{Seen}
 use Rattle.gin_place.specs.Placing.{IsAt}
 use Rattle.gin_place.specs.Causes.{IsBad, IsWhy}
@@ -223,7 +225,7 @@ returns-in-Ok-On g c =
     c.in_ok-held.ensures.left.0 c.in_ok-held.ensures.left.1 c.in_ok-held.ensures.lies is_page c.requires.pass
     (never g.D.Disk c.args.frames.now c.args.pass.now c.args.key.now c.args.items.now c.args.self.now c.in-At.sought
     c.in-At.parent c.in-At.page c.in-At.is
-    c.requires.items c.requires.placing c.found_stays.ensures.right c.ways_lead.ensures c.requires.pass c.requires.right
+    c.requires.items c.requires.placing right_keeps_found ways_hold c.requires.pass c.requires.right
     c.requires.none)
     c.go_on.new.self c.in-Ok-On.next c.go_on.result reading
     (λ making. subst (λ (x : Page). IsRoomy c.in-At.sought x (readings.On c.in-Ok-On.next)) c.page.ensures.value
