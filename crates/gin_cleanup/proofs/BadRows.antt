@@ -11,11 +11,12 @@ use Rattle.core_state.specs.Log.{Log, Pages, In}
 use Rattle.core_state.specs.Allowed.{Sheet}
 use Rattle.core_state.specs.Documents.{Doc, Has, head_of, slot_of}
 use Rattle.core_state.specs.Index.{Line, IsLinked}
-use Rattle.core_state.specs.PagesTold.{ListStands, PagesHold}
+use Rattle.core_state.specs.PagesTold.{ListStands}
 use Rattle.core_state.proofs.Histories.{chain_one}
+use Rattle.core_state.proofs.LawsHold.{pages as pages_told}
 use Rattle.core_state.proofs.PageLists.{in_front}
 use Rattle.core_state.proofs.Steps.Seen.{seen_shown}
-use Rattle.core_maintenance.specs.Keeping.{RightKeepsLine}
+use Rattle.core_maintenance.proofs.Lists.{right_keeps_line}
 use Rattle.buffer_frames.specs.Frames.{FramesValue, Behind}
 use Rattle.buffer_frames.specs.Passes.{IsPassOf, IsHolding, Seen, view_of}
 use Rattle.buffer_frames.specs.declared.pass.Pass.{Pass}
@@ -66,7 +67,7 @@ row_page R P some list q on =
 used : (c : Page) → IsRowPage c → c.body ≢ body.Free
 used c x free = let two : body.Pending x.0 ≡ body.Free = sym x.1 ∙ free in let z : ⊥ = cc in z
 
-module _ {D : Type 0} (device : Disk D) (told : PagesHold) (line : RightKeepsLine) (f : FramesValue D) (p : Pass)
+module _ {D : Type 0} (device : Disk D) (f : FramesValue D) (p : Pass)
     (held : List Sheet) (hold : IsHolding device f p held) (of : IsPassOf f p) (right : HasRight p) (q : ℕ)
     (on : Seen device f p (λ S P. IsOnList P q)) where
   never_rows : CannotUse f IsRowPage q → Behind device f (λ (R : Log). ⊥)
@@ -75,10 +76,10 @@ module _ {D : Type 0} (device : Disk D) (told : PagesHold) (line : RightKeepsLin
       let a = hold.allowed t up R stands legal in
       let S = seen_shown v R a in
       let l = on t up R stands legal S.0 S.1 in
-      let g = line v R a S.0 (right_of device f p held R of right stands) S.1 l.0 l.1 in
+      let g = right_keeps_line v R a S.0 (right_of device f p held R of right stands) S.1 l.0 l.1 in
       let long : f.journal.state.records ≡ length R = log_length device f.journal R stands.journal in
       let some : R ≢ [] = λ e. omega (arith, of.some, of.seen, long, ap length e) in
-      let page = row_page R a.pages some (told R a.pages legal a.shown).list q
+      let page = row_page R a.pages some (pages_told R a.pages legal a.shown).list q
       (l.0 ++ g.more, g.line, in_front q l.0 g.more l.2) in
       usable device f R t up stands legal a.pages a.shown IsRowPage q page (used (a.pages q) page) cannot
 

@@ -3,7 +3,7 @@ use Rattle.std.proofs.Common.{◌≡◌, ℕ, length, refl, sym, ap, ◌∙◌, 
 use Rattle.disk_trait.specs.declared.device.Disk.{Ghosts as Disk}
 use Rattle.page_types.specs.declared.page.Body.TheVariants as body
 use Rattle.core_state.specs.Log.{Log}
-use Rattle.core_state.specs.PagesTold.{PagesHold}
+use Rattle.core_state.proofs.LawsHold.{pages as pages_told}
 use Rattle.buffer_frames.specs.Frames.{FramesValue, Behind}
 use Rattle.buffer_frames.specs.Passes.{IsPassOf}
 use Rattle.buffer_frames.specs.declared.pass.Pass.{Pass}
@@ -29,33 +29,33 @@ module _ {D : Type 0} (device : Disk D) where
   why_cause l OutOfMemory f p c = c
 
   -- in no legal log the metapage is another page
-  pub never_meta : PagesHold → (f : FramesValue D) (p : Pass) → IsPassOf f p → CannotUse f IsMetaPage 0
+  pub never_meta : (f : FramesValue D) (p : Pass) → IsPassOf f p → CannotUse f IsMetaPage 0
       → Behind device f (λ (R : Log). ⊥)
-  never_meta told f p of cannot t up R stands legal =
+  never_meta f p of cannot t up R stands legal =
       let P = shown_by R legal.valid in
       let long : f.journal.state.records ≡ length R = log_length device f.journal R stands.journal in
-      let m = (told R P.0 legal P.1).list.meta (λ e. omega (arith, of.some, of.seen, long, ap length e)) in
+      let m = (pages_told R P.0 legal P.1).list.meta (λ e. omega (arith, of.some, of.seen, long, ap length e)) in
       usable device f R t up stands legal P.0 P.1 IsMetaPage 0 (m.0, m.1, _, m.2)
       (λ none. used m.0 m.1 _ (sym m.2 ∙ none)) cannot
     where
       used : (a b c : ℕ) → body.Meta a b c ≡ body.Free → ⊥
       used a b c e = cc
 
-  pub bad_meta : PagesHold → (f : FramesValue D) (p : Pass) → IsPassOf f p → CannotUse f IsMetaPage 0
+  pub bad_meta : (f : FramesValue D) (p : Pass) → IsPassOf f p → CannotUse f IsMetaPage 0
       → IsBadList device f p 0
-  bad_meta told f p of cannot = IsBadList.meta refl cannot (never_meta told f p of cannot)
+  bad_meta f p of cannot = IsBadList.meta refl cannot (never_meta f p of cannot)
 
   -- the metapage is not held
-  pub meta_cause : PagesHold → (l : FramesValue D) (e : PlaceError) (f : FramesValue D) (p : Pass)
+  pub meta_cause : (l : FramesValue D) (e : PlaceError) (f : FramesValue D) (p : Pass)
       → Finds device f p (CannotHold device 0 l e) → Finds device f p (IsCause device l e)
-  meta_cause told l e f p m = (
+  meta_cause l e f p m = (
     m.0,
     m.1,
     m.2,
     m.3,
     why_cause l e m.0 m.1
         (hold_why device (IsBadList device) 0 l e m.0 m.1
-        (λ c. bad_meta told m.0 m.1 (m.2).is_pass (weaker m.0 IsMetaPage 0 c)) m.4),
+        (λ c. bad_meta m.0 m.1 (m.2).is_pass (weaker m.0 IsMetaPage 0 c)) m.4),
   )
 
   -- no bad page is so in a legal log

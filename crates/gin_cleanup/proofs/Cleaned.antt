@@ -6,7 +6,7 @@ use Rattle.disk_trait.specs.declared.device.Disk.{Ghosts as Disk}
 use Rattle.page_types.specs.Records.{kind_number}
 use Rattle.core_state.specs.Log.{Log, In}
 use Rattle.core_state.specs.History.{History, IsHistory}
-use Rattle.core_maintenance.specs.Keeping.{HistoryHolds}
+use Rattle.core_maintenance.proofs.Pairs.{history_holds}
 use Rattle.buffer_frames.specs.Frames.{FramesValue}
 use Rattle.buffer_frames.specs.Passes.{GoesOnBy, before_more}
 use Rattle.buffer_frames.specs.declared.pass.Pass.{Pass}
@@ -28,11 +28,11 @@ index_work k (inl e) = (omega (arith, e), omega (arith, e))
 index_work k (inr p) = (omega (arith, p.0), omega (arith, p.1))
 
 -- so do these records
-pub history_on : HistoryHolds → (owes : Bool) (ks : List ℕ) → AllByRecursion IsCleaningKind ks → (R R' : Log)
+pub history_on : (owes : Bool) (ks : List ℕ) → AllByRecursion IsCleaningKind ks → (R R' : Log)
     (H : History) → GoesOnBy owes R R' ks → IsHistory R H → IsHistory R' H
-history_on law owes ks each R R' H on had =
+history_on owes ks each R R' H on had =
     subst (λ (T : Log). IsHistory T H) (sym on.log_is)
-    (law (before_more owes ks R) on.added H
+    (history_holds (before_more owes ks R) on.added H
     (λ r i. index_work (kind_number r.kind) (all_in IsCleaningKind ks (kind_number r.kind) each
     (subst (In (kind_number r.kind)) on.kinds_are (in_kinds on.added r i))))
     (owed_history owes ks R H had))
@@ -41,7 +41,7 @@ of_placing : (ks : List ℕ) → AllByRecursion IsPlacingKind ks → AllByRecurs
 of_placing [] all = tt
 of_placing (k ∷ ks) all = (inr all.0, of_placing ks all.1)
 
-module _ {D : Type 0} (device : Disk D) (law : HistoryHolds) where
+module _ {D : Type 0} (device : Disk D) where
   -- placing is cleaning
   pub cleans_by : (f g : FramesValue D) (p q : Pass) (ks : List ℕ) → WorksOn device f p g q ks
       → CleansOn device f p g q ks
@@ -49,7 +49,7 @@ module _ {D : Type 0} (device : Disk D) (law : HistoryHolds) where
     is_pass = w.is_pass;
     added = w.added;
     cleaning = of_placing ks w.placing;
-    history = history_on law f.journal.owes ks (of_placing ks w.placing);
+    history = history_on f.journal.owes ks (of_placing ks w.placing);
     placed = w.pairs.placed;
     rises = w.rises;
     pin = w.pin;
@@ -67,7 +67,7 @@ module _ {D : Type 0} (device : Disk D) (law : HistoryHolds) where
     is_pass = y.is_pass;
     added = added_in_turn device f g h [] ks x.added y.added;
     cleaning = y.cleaning;
-    history = history_on law f.journal.owes ks y.cleaning;
+    history = history_on f.journal.owes ks y.cleaning;
     placed = λ k i had. y.placed k i (x.pairs.placed k i had);
     rises = rises_on device p q r x.rises y.rises;
     pin = y.pin ∙ x.pin;

@@ -10,9 +10,9 @@ use Rattle.page_types.specs.declared.page.Body.TheVariants as body
 use Rattle.core_state.specs.Log.{Log, Pages, In, cut}
 use Rattle.core_state.specs.Allowed.{Sheet}
 use Rattle.core_state.specs.Legal.{IsLegal}
-use Rattle.core_state.specs.PagesTold.{PagesHold}
-use Rattle.core_maintenance.specs.Keeping.{PairsStay, LineGrows, PairsHold, LineHolds}
-use Rattle.core_maintenance.specs.FreshRows.{RowsAreFresh, FreshHolds}
+use Rattle.core_state.proofs.LawsHold.{pages as pages_told}
+use Rattle.core_maintenance.specs.Keeping.{PairsStay, LineGrows}
+use Rattle.core_maintenance.specs.FreshRows.{RowsAreFresh}
 use Rattle.buffer_frames.specs.Frames.{FramesValue}
 use Rattle.buffer_frames.specs.Passes.{IsPassOf, IsHolding, Seen}
 use Rattle.buffer_frames.specs.declared.pass.Pass.{Pass}
@@ -51,7 +51,7 @@ not_empty n R some size e = omega (arith, some, size, ap length e)
 same_names : (a b c first last n : ℕ) → body.Meta a b c ≡ body.Meta first last n → (a ≡ first) × (c ≡ n)
 same_names a b c first last n e = (cc, cc)
 
-module _ {D : Type 0} (device : Disk D) (line : LineHolds) (fresh : FreshHolds) (pairs : PairsHold) (told : PagesHold)
+module _ {D : Type 0} (device : Disk D)
     (f g : FramesValue D) (p q : Pass) (h : Sheet) (hold : IsHolding device f p (h ∷ [])) (of : IsPassOf f p)
     (right : HasRight p) (works : WorksOn device f p g q []) (first last n : ℕ) (number : h.page ≡ 0)
     (is : h.content.body ≡ body.Meta first last n) (seen : Seen device f p (λ S P. P h.page ≡ h.content)) where
@@ -61,7 +61,7 @@ module _ {D : Type 0} (device : Disk D) (line : LineHolds) (fresh : FreshHolds) 
       let S : Log = cut p.seen R in
       let legal_S : IsLegal S =
       legal_before (take (length R - p.seen) R) S (subst IsLegal (parts_of p.seen R) legal) in
-      let list = (told S P legal_S shown).list in
+      let list = (pages_told S P legal_S shown).list in
       let long : f.journal.state.records ≡ length R = log_length device f.journal R stands.journal in
       let size : length S ≡ p.seen = cut_length p.seen R (omega (arith, of.seen, long)) in
       let m = list.meta (not_empty p.seen S (omega (arith, of.some)) size) in
@@ -77,12 +77,12 @@ module _ {D : Type 0} (device : Disk D) (line : LineHolds) (fresh : FreshHolds) 
       )
 
   then : Seen device g q (λ S P. IsReadingAt P n [] [] [] first × AreLeft p.seen S P n)
-  then = carried_by device f g p q [] (h ∷ []) hold of right works line fresh pairs
+  then = carried_by device f g p q [] (h ∷ []) hold of right works
       (λ S P. IsReadingAt P n [] [] [] first × AreLeft p.seen S P n)
       (λ S P. IsReadingAt P n [] [] [] first × AreLeft p.seen S P n)
       (λ C later S P Q is size legal shown_P shown_Q adds grows new kept x. (
         reading_stays n [] [] [] first P Q grows new kept x.0,
-        left_grows pairs p.seen C later S P Q is (not_empty p.seen C (omega (arith, of.some)) size) legal shown_P adds
+        left_grows p.seen C later S P Q is (not_empty p.seen C (omega (arith, of.some)) size) legal shown_P adds
             (omega (arith, size)) n grows x.1,
       )) begins
 
@@ -103,30 +103,30 @@ module _ {D : Type 0} (device : Disk D) (line : LineHolds) (fresh : FreshHolds) 
     left = λ t up R stands legal P shown. (then t up R stands legal P shown).1;
   }
 
-module _ {D : Type 0} (device : Disk D) (line : LineHolds) (fresh : FreshHolds) (pairs : PairsHold)
+module _ {D : Type 0} (device : Disk D)
     (f g : FramesValue D) (p q : Pass) (held : List Sheet) (hold : IsHolding device f p held) (of : IsPassOf f p)
     (right : HasRight p) (reads : ReadsOn device f p g q) where
   at_still : (c : Cleanup) (s : Stage) → Seen device f p (λ S P. IsAt P c s) → Seen device g q (λ S P. IsAt P c s)
   at_still c (stage.Reading page before) =
-      carried device f g p q [] held hold of right reads.works line fresh pairs
+      carried device f g p q [] held hold of right reads.works
       (λ P. IsAt P c (stage.Reading page before))
       (reading_stays c.left c.counts.items (waits_of c.gathered (stage.Reading page before)) before.items page)
   at_still c (stage.Placing key items placing) =
-      carried device f g p q [] held hold of right reads.works line fresh pairs
+      carried device f g p q [] held hold of right reads.works
       (λ P. IsAt P c (stage.Placing key items placing))
       (λ P Q grows new kept b. batch_grows.batch P Q c.left c.counts.items
       (waits_of c.gathered (stage.Placing key items placing)) b grows new kept)
   at_still c stage.Shifting =
-      carried device f g p q [] held hold of right reads.works line fresh pairs (λ P. IsAt P c stage.Shifting)
+      carried device f g p q [] held hold of right reads.works (λ P. IsAt P c stage.Shifting)
       (λ P Q grows new kept b. batch_grows.batch P Q c.left (drop c.gone c.counts.items) [] b grows new kept)
 
   left_still : (from n : ℕ) → from ≤ p.seen → Seen device f p (λ S P. AreLeft from S P n)
       → Seen device g q (λ S P. AreLeft from S P n)
   left_still from n began =
-      carried_by device f g p q [] held hold of right reads.works line fresh pairs (λ S P. AreLeft from S P n)
+      carried_by device f g p q [] held hold of right reads.works (λ S P. AreLeft from S P n)
       (λ S P. AreLeft from S P n)
       (λ C later S P Q is size legal shown_P shown_Q adds grows new kept x.
-      left_grows pairs from C later S P Q is (not_empty p.seen C (omega (arith, of.some)) size) legal shown_P adds
+      left_grows from C later S P Q is (not_empty p.seen C (omega (arith, of.some)) size) legal shown_P adds
       (omega (arith, began, size)) n grows x)
 
   key_still : (s : Stage) → IsKeyAt device f p s → IsKeyAt device g q s

@@ -8,7 +8,7 @@ use Rattle.page_types.specs.Views.{rows_of}
 use Rattle.page_types.specs.declared.page.Row.{Row}
 use Rattle.core_state.specs.Log.{Pages, In, cut}
 use Rattle.core_state.specs.Legal.{IsLegal}
-use Rattle.core_state.specs.PagesTold.{PagesHold}
+use Rattle.core_state.proofs.LawsHold.{pages as pages_told}
 use Rattle.core_state.proofs.PageLists.{in_front, in_either}
 use Rattle.core_state.proofs.Trees.Members.{in_map}
 use Rattle.buffer_frames.specs.Frames.{FramesValue}
@@ -68,7 +68,7 @@ module _ {D : Type 0} (device : Disk D) (f : FramesValue D) (p : Pass) (from : �
       (λ e. omega (arith, all, some, ap length e))
 
   -- or the first row of the page that is next is of no item on the page before it
-  module _ (told : PagesHold) (few : length c.counts.items < c.left) (some : c.counts.items ≢ []) (rows : List Row)
+  module _ (few : length c.counts.items < c.left) (some : c.counts.items ≢ []) (rows : List Row)
       (on : Seen device f p (λ S P. rows_of (P page) ≡ rows)) (other : GoesOnWith rows b.items → ⊥) where
     ends : Seen device f p (λ S P. IsBatch P c.left c.counts.items here)
     ends t up R stands legal P shown = go (was_at t up R stands legal P shown)
@@ -82,8 +82,8 @@ module _ {D : Type 0} (device : Disk D) (f : FramesValue D) (p : Pass) (from : �
         by x (IsNext.none all) = absurd (omega (arith, all, few))
         by x (IsNext.first rest none e) = absurd (some none)
         by x (IsNext.later front rest q e size items) =
-            ends_before (cut p.seen R) P (told (cut p.seen R) P legal_S shown).list c.left c.counts.items here x.0 front
-            rest q page e size
+            ends_before (cut p.seen R) P (pages_told (cut p.seen R) P legal_S shown).list c.left c.counts.items here x.0
+            front rest q page e size
             (λ w v vs i is same.
             other (subst (λ (ws : List Row). GoesOnWith ws b.items) (sym is ∙ on t up R stands legal P shown)
             (subst (λ (n : ℕ). In n b.items) same

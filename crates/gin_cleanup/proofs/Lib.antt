@@ -29,3 +29,5 @@ mod Ending
 mod Noted
 mod Saying
 mod Nearer
+mod Worked
+mod ShiftEnds

@@ -11,8 +11,11 @@ use Rattle.page_types.specs.declared.record.Record.{Record}
 use Rattle.core_state.specs.Log.{Log, Pages, In, Shows, cut}
 use Rattle.core_state.specs.Allowed.{Sheet}
 use Rattle.core_state.specs.Legal.{IsLegal}
-use Rattle.core_maintenance.specs.Keeping.{IsPlacing, OnlyAdd, PairsStay, LineGrows, PairsHold, LineHolds}
-use Rattle.core_maintenance.specs.FreshRows.{RowsAreFresh, FreshHolds}
+use Rattle.core_maintenance.specs.Keeping.{IsPlacing, OnlyAdd, PairsStay, LineGrows}
+use Rattle.core_maintenance.specs.FreshRows.{RowsAreFresh}
+use Rattle.core_maintenance.proofs.FreshRows.{fresh_holds}
+use Rattle.core_maintenance.proofs.Lists.{line_holds}
+use Rattle.core_maintenance.proofs.Pairs.{pairs_hold}
 use Rattle.core_maintenance.proofs.Right.{others_early}
 use Rattle.wal.specs.Waiting.{down_of}
 use Rattle.buffer_frames.specs.Journals.{owed_abort}
@@ -123,11 +126,11 @@ module _ {D : Type 0} (device : Disk D) (f g : FramesValue D) (p q : Pass) (ks :
   had_some R o e = omega (arith, was.some, o.size, ap length e)
 
   -- what it had seen, by what it sees
-  pub carried_by : (line : LineHolds) (fresh : FreshHolds) (pairs : PairsHold) (X Y : Log → Pages → Type 0)
+  pub carried_by : (X Y : Log → Pages → Type 0)
       → ((C later S : Log) (P Q : Pages) → S ≡ later ++ C → length C ≡ p.seen → IsLegal S → Shows C P → Shows S Q
       → OnlyAdd later → LineGrows P Q → RowsAreFresh P Q → PairsStay P Q → X C P → Y S Q)
       → Seen device f p X → Seen device g q Y
-  carried_by line fresh pairs X Y stay seen t up R stands legal Q shown =
+  carried_by X Y stay seen t up R stands legal Q shown =
       let o = goes t up R stands legal in
       let C : Log = cut p.seen o.before in
       let S : Log = cut q.seen R in
@@ -135,14 +138,14 @@ module _ {D : Type 0} (device : Disk D) (f g : FramesValue D) (p q : Pass) (ks :
       let some = had_some R o in
       let P = shown_by C (had_legal R legal o).valid in
       stay C o.later S P.0 Q o.seen_is o.size all P.1 shown o.adds
-      (line C o.later S P.0 Q o.seen_is some all P.1 shown o.adds)
-      (fresh C o.later S P.0 Q o.seen_is some all P.1 shown o.adds)
-      (pairs C o.later S P.0 Q o.seen_is some all P.1 shown o.adds)
+      (line_holds C o.later S P.0 Q o.seen_is some all P.1 shown o.adds)
+      (fresh_holds C o.later S P.0 Q o.seen_is some all P.1 shown o.adds)
+      (pairs_hold C o.later S P.0 Q o.seen_is some all P.1 shown o.adds)
       (seen t (works.added.was_up up) o.before o.stood o.legal P.0 P.1)
 
-  pub carried : LineHolds → FreshHolds → PairsHold → (X : Pages → Type 0)
+  pub carried : (X : Pages → Type 0)
       → ((P Q : Pages) → LineGrows P Q → RowsAreFresh P Q → PairsStay P Q → X P → X Q)
       → Seen device f p (λ S P. X P) → Seen device g q (λ S P. X P)
-  carried line fresh pairs X stay =
-      carried_by line fresh pairs (λ S P. X P) (λ S P. X P)
+  carried X stay =
+      carried_by (λ S P. X P) (λ S P. X P)
       (λ C later S P Q is size legal shown_P shown_Q adds grows new kept x. stay P Q grows new kept x)

@@ -19,11 +19,13 @@ use Rattle.core_state.specs.Log.{Log, Pages, In, Shows, cut}
 use Rattle.core_state.specs.Index.{Line}
 use Rattle.core_state.specs.Allowed.{Sheet, Step, Owes, sheet_pages}
 use Rattle.core_state.specs.Legal.{IsLegal}
-use Rattle.core_state.specs.PagesTold.{ListStands, PagesHold}
+use Rattle.core_state.specs.PagesTold.{ListStands}
 use Rattle.core_state.specs.PendingRules.{IsLastAfter}
-use Rattle.core_state.specs.Steps.{MayBy, sheet}
+use Rattle.core_state.specs.Steps.{sheet}
 use Rattle.core_state.proofs.Histories.{chain_one}
+use Rattle.core_state.proofs.LawsHold.{pages as pages_told}
 use Rattle.core_maintenance.specs.MovingSteps.{CanShift}
+use Rattle.core_maintenance.proofs.Moves.{shift_may}
 use Rattle.buffer_frames.specs.Drawing.{IsSheet}
 use Rattle.buffer_frames.specs.Frames.{FramesValue, Stands}
 use Rattle.buffer_frames.specs.Passes.{IsPassOf, Seen, view_of}
@@ -98,7 +100,7 @@ first_line : (P : Pages) (left n : ℕ) (ns line : List ℕ) → Line P line →
 first_line P left n ns [] on counted = absurd counted
 first_line P left n ns (q ∷ rest) on counted = (rest, ap (λ (p : ℕ). p ∷ rest) (sym on.0))
 
-module _ {D : Type 0} (device : Disk D) (told : PagesHold) (f : FramesValue D) (p : Pass) (t : First) (s : Step)
+module _ {D : Type 0} (device : Disk D) (f : FramesValue D) (p : Pass) (t : First) (s : Step)
     (holds : HoldsFirst device f p t) (of : IsPassOf f p) (right : HasRight p) (x : IsShiftStep t.meta t.page s)
     (left n : ℕ) (ns : List ℕ) (batch : Seen device f p (λ S P. IsBatch P left (n ∷ ns) []))
     (few : length (rows_of t.page.content) ≤ n) where
@@ -194,8 +196,8 @@ module _ {D : Type 0} (device : Disk D) (told : PagesHold) (f : FramesValue D) (
         not_all = λ is. absurd (no_abort is);
       }
 
-  pub may_shift : MayBy CanShift → MayShift device f p (t.page ∷ t.meta ∷ []) s
-  may_shift law = record {
+  pub may_shift : MayShift device f p (t.page ∷ t.meta ∷ []) s
+  may_shift = record {
     is_pass = of;
     right = right;
     holding = holds.holding;
@@ -222,8 +224,8 @@ module _ {D : Type 0} (device : Disk D) (told : PagesHold) (f : FramesValue D) (
     };
     kind_is = x.kind_is;
     pages = subst (λ (xs : List Sheet). length xs ≤ 2) (sym x.after_is) (omega arith);
-    may = λ tells up R stands legal. law (view_of f p R held) s (λ P legal_seen shown.
-        can tells R stands legal P legal_seen shown (told (cut p.seen R) P legal_seen shown).list
+    may = λ tells up R stands legal. shift_may (view_of f p R held) s (λ P legal_seen shown.
+        can tells R stands legal P legal_seen shown (pages_told (cut p.seen R) P legal_seen shown).list
         (holds.seen tells up R stands legal P shown) (batch tells up R stands legal P shown));
     owes = owes;
   }

@@ -11,10 +11,13 @@ use Rattle.core_state.specs.Legal.{IsLegal}
 use Rattle.core_state.specs.Allowed.{Sheet, Step, Leaves, drawn_kind}
 use Rattle.core_state.proofs.Steps.Seen.{seen_shown}
 use Rattle.core_maintenance.specs.Right as maintenance
-use Rattle.core_maintenance.specs.Keeping.{OnlyAdd, PairsStay, PairsHold, LineGrows, LineHolds, ShiftKeeps, ShiftHolds}
-use Rattle.core_maintenance.specs.Keeping.{HistoryHolds}
-use Rattle.core_maintenance.specs.FreshRows.{RowsAreFresh, FreshHolds}
+use Rattle.core_maintenance.specs.Keeping.{OnlyAdd, PairsStay, LineGrows, ShiftKeeps}
+use Rattle.core_maintenance.specs.FreshRows.{RowsAreFresh}
+use Rattle.core_maintenance.proofs.FreshRows.{fresh_holds}
+use Rattle.core_maintenance.proofs.Lists.{line_holds}
+use Rattle.core_maintenance.proofs.Pairs.{pairs_hold}
 use Rattle.core_maintenance.proofs.Right.{others_early}
+use Rattle.core_maintenance.proofs.Shifts.{shift_holds}
 use Rattle.buffer_frames.specs.Frames.{FramesValue}
 use Rattle.buffer_frames.specs.Passes.{IsPassOf, HasAdded, PassRises, Seen, IsLogged, view_of}
 use Rattle.buffer_frames.specs.declared.pass.Pass.{Pass}
@@ -109,35 +112,34 @@ module _ {D : Type 0} (device : Disk D) (f g : FramesValue D) (p q : Pass) (held
         x,
       )
 
-  module _ (line : LineHolds) (fresh : FreshHolds) (pairs : PairsHold) (goes : ShiftHolds) where
-    pub over : (X Y : Log → Pages → Type 0)
-        → ((S : Log) (Q : Pages) (e : Ends p.seen step S Q) → Shows (e.newest ∷ e.log) Q → LineGrows e.pages e.then
-        → RowsAreFresh e.pages e.then → PairsStay e.pages e.then → ShiftKeeps e.then Q → X e.had e.pages
-        → Y (e.newest ∷ e.log) Q)
-        → Seen device f p X → Seen device g q Y
-    over X Y stay seen_x t up R stands legal Q shown =
-        let z = ends X seen_x t up R stands legal Q shown in
-        let e = z.0 in
-        let now : IsLegal (e.newest ∷ e.log) = subst IsLegal e.log_is z.1 in
-        let shows : Shows (e.newest ∷ e.log) Q = subst (λ (T : Log). Shows T Q) e.log_is z.2 in
-        subst (λ (T : Log). Y T Q) (sym e.log_is)
-        (stay (cut q.seen R) Q e shows
-        (line e.had e.later e.log e.pages e.then e.goes_on e.some e.legal e.shown e.shown_then e.adds)
-        (fresh e.had e.later e.log e.pages e.then e.goes_on e.some e.legal e.shown e.shown_then e.adds)
-        (pairs e.had e.later e.log e.pages e.then e.goes_on e.some e.legal e.shown e.shown_then e.adds)
-        (goes e.log e.newest e.then Q now e.shown_then shows e.kind_is) z.3)
+  pub over : (X Y : Log → Pages → Type 0)
+      → ((S : Log) (Q : Pages) (e : Ends p.seen step S Q) → Shows (e.newest ∷ e.log) Q → LineGrows e.pages e.then
+      → RowsAreFresh e.pages e.then → PairsStay e.pages e.then → ShiftKeeps e.then Q → X e.had e.pages
+      → Y (e.newest ∷ e.log) Q)
+      → Seen device f p X → Seen device g q Y
+  over X Y stay seen_x t up R stands legal Q shown =
+      let z = ends X seen_x t up R stands legal Q shown in
+      let e = z.0 in
+      let now : IsLegal (e.newest ∷ e.log) = subst IsLegal e.log_is z.1 in
+      let shows : Shows (e.newest ∷ e.log) Q = subst (λ (T : Log). Shows T Q) e.log_is z.2 in
+      subst (λ (T : Log). Y T Q) (sym e.log_is)
+      (stay (cut q.seen R) Q e shows
+      (line_holds e.had e.later e.log e.pages e.then e.goes_on e.some e.legal e.shown e.shown_then e.adds)
+      (fresh_holds e.had e.later e.log e.pages e.then e.goes_on e.some e.legal e.shown e.shown_then e.adds)
+      (pairs_hold e.had e.later e.log e.pages e.then e.goes_on e.some e.legal e.shown e.shown_then e.adds)
+      (shift_holds e.log e.newest e.then Q now e.shown_then shows e.kind_is) z.3)
 
-  pub shift_logs : PairsHold → ShiftHolds → HistoryHolds → LineHolds → FreshHolds → PassRises p q → IsPassOf g q
+  pub shift_logs : PassRises p q → IsPassOf g q
       → q.pin ≡ p.pin → q.room ≡ p.room
       → q.xid ≡ p.xid → q.work ≡ p.work → g.pins ≡ f.pins → StoreGoesOn device f g (12 ∷ [])
       → LogsShift device f p held step g q
-  shift_logs pairs goes history line fresh rises of pin room xid work pins runs = record {
+  shift_logs rises of pin room xid work pins runs = record {
     cleans = record {
       is_pass = of;
       added = added;
       cleaning = (inl refl, tt);
-      history = history_on history f.journal.owes (12 ∷ []) (inl refl, tt);
-      placed = λ k i. over line fresh pairs goes (λ S P. Main P k i) (λ S P. Main P k i)
+      history = history_on f.journal.owes (12 ∷ []) (inl refl, tt);
+      placed = λ k i. over (λ S P. Main P k i) (λ S P. Main P k i)
           (λ S Q e shows l n s w had. (w.main k i).0 (s.main k i had));
       rises = rises;
       pin = pin;

@@ -1,11 +1,9 @@
 -- A cleanup whose pages are shifted, at frames where the first of them is held, and after that.
-use Rattle.std.proofs.Common.{◌≡◌, ◌<◌, ◌≤◌, ◌-◌, ℕ, suc, List, [], ◌∷◌, length, drop, sym, ap, subst, ◌∙◌, arith}
+use Rattle.std.proofs.Common.{◌≡◌, ◌<◌, ◌-◌, ℕ, suc, List, [], ◌∷◌, length, drop, sym, ap, subst, ◌∙◌, arith}
 use Rattle.std.specs.Prelude.{slice_get, Some}
 use Rattle.disk_trait.specs.declared.device.Disk.{Ghosts as Disk}
-use Rattle.page_types.specs.Views.{rows_of, first_in, first_of}
+use Rattle.page_types.specs.Views.{first_in, first_of}
 use Rattle.core_state.specs.Allowed.{Sheet, Step}
-use Rattle.core_maintenance.specs.Keeping.{PairsHold, LineHolds, ShiftHolds}
-use Rattle.core_maintenance.specs.FreshRows.{FreshHolds}
 use Rattle.buffer_frames.specs.Frames.{FramesValue}
 use Rattle.buffer_frames.specs.Passes.{IsPassOf, Seen}
 use Rattle.buffer_frames.specs.declared.pass.Pass.{Pass}
@@ -18,22 +16,13 @@ use Rattle.gin_place.specs.declared.error.PlaceError.TheVariants.{StoreFull, Log
 use Rattle.gin_place.specs.declared.error.PlaceError.TheVariants.{OutOfMemory}
 use Rattle.gin_place.proofs.Causing.{finds_now}
 use Rattle.gin_cleanup.specs.Going.{IsRowPage, IsBadList, IsCause}
-use Rattle.gin_cleanup.specs.Inner.Shifting.{IsShiftStep, IsFate, HasNoFate, HoldsFirst, MayShift, LogsShift}
+use Rattle.gin_cleanup.specs.Inner.Shifting.{IsShiftStep, HasNoFate, HoldsFirst, MayShift, LogsShift}
 use Rattle.gin_cleanup.specs.Inner.Shifting.{HasTurnedAgain, HasGone}
 use Rattle.gin_cleanup.specs.declared.cleanup.Cleanup.{Cleanup}
 use Rattle.gin_cleanup.specs.declared.cleanup.Stage.{Stage}
 use Rattle.gin_cleanup.specs.declared.cleanup.Stage.TheVariants as stage
 use Rattle.gin_cleanup.specs.declared.first_page.First.{First}
-use Rattle.gin_cleanup.specs.declared.first_page.Fate.TheVariants as fate
 use Rattle.gin_cleanup.proofs.Turning.{reads_from, drop_at, turned, gone_on, after_shift}
-
--- what was found of the first page
-pub fate_grown : (meta page : Sheet) (noted turns : ℕ) → IsFate meta page noted turns fate.Grown → 0 < turns
-fate_grown meta page noted turns (IsFate.grown more some) = some
-
-pub fate_gone : (meta page : Sheet) (noted turns : ℕ) (s : Step) → IsFate meta page noted turns (fate.Gone s)
-    → (length (rows_of page.content) ≤ noted) × IsShiftStep meta page s
-fate_gone meta page noted turns s (IsFate.goes _ few is) = (few, is)
 
 -- why it has no fate
 pub no_fate_cause : {D : Type 0} (device : Disk D) (f l : FramesValue D) (p : Pass) (page : Sheet) (e : PlaceError)
@@ -86,15 +75,15 @@ module _ {D : Type 0} (device : Disk D) (f : FramesValue D) (p : Pass) (from : �
       was.left
 
   -- it is gone
-  pub shifts : LineHolds → FreshHolds → PairsHold → ShiftHolds → (g : FramesValue D) (q : Pass) (t : First)
+  pub shifts : (g : FramesValue D) (q : Pass) (t : First)
       → HoldsFirst device f p t → (s : Step) → MayShift device f p (t.page ∷ t.meta ∷ []) s
       → LogsShift device f p (t.page ∷ t.meta ∷ []) s g q → IsShiftStep t.meta t.page s → 0 < c.left
       → (noted : ℕ) → slice_get c.counts.items c.gone ≡ Some noted → (new : Cleanup) (right : ℕ)
       → right ≡ t.page.content.right → HasGone right c new → IsCleaning device g q from new
-  shifts line fresh pairs goes g q t holds s may logs step some noted is new right same x =
+  shifts g q t holds s may logs step some noted is new right same x =
       gone_on device g q from (omega (arith, was.began, ((logs.cleans).rises).seen)) c new at gone.1 right x
       (λ tells up R stands legal P shown.
-      let y = after_shift device line fresh pairs goes f g p q t.meta t.page s may logs step holds.meta_page from
+      let y = after_shift device f g p q t.meta t.page s may logs step holds.meta_page from
       was.began c some noted is (λ a b R' d e P' h. (batch a b R' d e P' h, was.left a b R' d e P' h))
       tells up R stands legal P shown in
       (y.0, y.1, y.2 ∙ sym same))

@@ -12,7 +12,8 @@ use Rattle.core_state.specs.PagesTold.{ListStands}
 use Rattle.core_state.proofs.Histories.{chain_one}
 use Rattle.core_state.proofs.PageLists.{in_front}
 use Rattle.core_state.proofs.Showing.{shown_one}
-use Rattle.core_maintenance.specs.Keeping.{OnlyAdd, PairsHold, LineGrows}
+use Rattle.core_maintenance.specs.Keeping.{OnlyAdd, LineGrows}
+use Rattle.core_maintenance.proofs.Pairs.{pairs_hold}
 use Rattle.buffer_frames.proofs.AtHand.{cut_whole, parts_of}
 use Rattle.buffer_frames.proofs.HistoryParts.{legal_before}
 use Rattle.gin_place.proofs.Logs.{cut_front}
@@ -52,7 +53,7 @@ left_begins S P list from n shown at size = record {
       );
 }
 
-module _ (pairs : PairsHold) (from : ℕ) (C later S : Log) (P Q : Pages) (is : S ≡ later ++ C) (some : C ≢ [])
+module _ (from : ℕ) (C later S : Log) (P Q : Pages) (is : S ≡ later ++ C) (some : C ≢ [])
     (legal : IsLegal S) (shown : Shows C P) (adds : OnlyAdd later) (began : from ≤ length C) where
   cut_same : (n : ℕ) → n ≤ length C → cut n S ≡ cut n C
   cut_same n le = ap (cut n) is ∙ cut_front n later C le
@@ -72,7 +73,7 @@ module _ (pairs : PairsHold) (from : ℕ) (C later S : Log) (P Q : Pages) (is : 
         ap (λ (l : Log). drop k l) is
         ∙ drop-append-le k later C (omega (arith, le, ap length is, length-append later C)) in
         let then : IsLegal (cut n S) = legal_before (take k S) (cut n S) (subst IsLegal (parts_of n S) legal) in
-        (pairs C (drop k later) (cut n S) P P' cuts some then shown shown'
+        (pairs_hold C (drop k later) (cut n S) P P' cuts some then shown shown'
         (λ r i. adds r (in_drop k r later i))).rows w linked
   ]
 

@@ -1,5 +1,5 @@
 -- What a test answers.
-use Rattle.std.proofs.Common.{◌≡◌, Bool, true, false, Result, Ok, Err}
+use Rattle.std.proofs.Common.{◌≡◌, ◌<◌, ℕ, Bool, true, false, Result, Ok, Err, arith}
 use Rattle.std.specs.Prelude.{OnOk}
 
 -- no test answers both
@@ -11,3 +11,7 @@ not_both false e f = absurd (cc)
 pub on_answer : {T E : Type 0} (P : Type 0) (r : Result T E) → P → OnOk r P
 on_answer P (Ok x) p = p
 on_answer P (Err e) p = tt
+
+-- a number that is 0 is not above it
+pub not_above : (n : ℕ) → 0 < n → n ≡ 0 → ⊥
+not_above n above none = omega (arith, above, none)

@@ -12,8 +12,8 @@ use Rattle.core_state.specs.Log.{Log, Pages, In, Shows, cut}
 use Rattle.core_state.specs.Allowed.{Sheet, Step, AreMade, made_by, drawn_body}
 use Rattle.core_state.specs.Index.{rows_on}
 use Rattle.core_state.proofs.Histories.{chain_one}
-use Rattle.core_maintenance.specs.Keeping.{PairsHold, LineHolds, LineGrows, PairsStay, ShiftKeeps, ShiftHolds}
-use Rattle.core_maintenance.specs.FreshRows.{RowsAreFresh, FreshHolds}
+use Rattle.core_maintenance.specs.Keeping.{LineGrows, PairsStay, ShiftKeeps}
+use Rattle.core_maintenance.specs.FreshRows.{RowsAreFresh}
 use Rattle.buffer_frames.specs.Frames.{FramesValue}
 use Rattle.buffer_frames.specs.Passes.{Seen}
 use Rattle.buffer_frames.specs.declared.pass.Pass.{Pass}
@@ -114,7 +114,7 @@ module _ {D : Type 0} (device : Disk D) (f : FramesValue D) (p : Pass) (from : �
         left = λ t up R stands legal P shown. (then t up R stands legal P shown).1;
       })
 
-module _ {D : Type 0} (device : Disk D) (line : LineHolds) (fresh : FreshHolds) (pairs : PairsHold) (goes : ShiftHolds)
+module _ {D : Type 0} (device : Disk D)
     (f g : FramesValue D) (p q : Pass) (meta page : Sheet) (s : Step)
     (may : MayShift device f p (page ∷ meta ∷ []) s) (logs : LogsShift device f p (page ∷ meta ∷ []) s g q)
     (step : IsShiftStep meta page s) (number : meta.page ≡ 0) (from : ℕ) (began : from ≤ p.seen) (c : Cleanup)
@@ -137,7 +137,7 @@ module _ {D : Type 0} (device : Disk D) (line : LineHolds) (fresh : FreshHolds) 
       subst (λ (ms : List ℕ). IsBatch e.pages (suc left) ms []) (drop_at c.counts.items c.gone noted at)
       (subst (λ (k : ℕ). IsBatch e.pages k (drop c.gone c.counts.items) []) is x.0) in
       let b = batch_grows.batch e.pages e.then (suc left) (noted ∷ ns) [] had l n stay in
-      let y = left_grows pairs from e.had e.later e.log e.pages e.then e.goes_on e.some e.legal e.shown e.adds
+      let y = left_grows from e.had e.later e.log e.pages e.then e.goes_on e.some e.legal e.shown e.adds
       (omega (arith, began, e.size)) (suc left) l (subst (AreLeft from e.had e.pages) is x.1) in
       let same = chain_one e.then (first_of (e.then 0)) b.gathered.line y.line b.gathered.is_line y.is_line in
       let whole = subst (λ (qs : List ℕ). AreApart (rows_on e.then (take (suc left) qs)) (rows_on e.then
@@ -157,6 +157,6 @@ module _ {D : Type 0} (device : Disk D) (line : LineHolds) (fresh : FreshHolds) 
   pub after_shift : Seen device f p Before
       → Seen device g q (λ S Q. IsBatch Q (c.left - 1) (drop (suc c.gone) c.counts.items) []
       × AreLeft from S Q (c.left - 1) × (first_of (Q 0) ≡ page.content.right))
-  after_shift = over device f g p q (page ∷ meta ∷ []) s may logs.cleans.added logs.seen logs.all line fresh pairs goes
+  after_shift = over device f g p q (page ∷ meta ∷ []) s may logs.cleans.added logs.seen logs.all
       Before (λ S Q. IsBatch Q (c.left - 1) (drop (suc c.gone) c.counts.items) [] × AreLeft from S Q (c.left - 1)
       × (first_of (Q 0) ≡ page.content.right)) one

@@ -2,3 +2,4 @@
 pub mod Shifting
 pub mod Between
 pub mod Noting
+pub mod Stepping

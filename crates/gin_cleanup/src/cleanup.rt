@@ -6,16 +6,15 @@ ghost use Rattle.gin_place.specs.Causes.{Finds, NoBadPage};
 ghost use Rattle.gin_place.specs.Faults.{MetNoFault, FaultBy};
 ghost use Rattle.gin_place.specs.Holding.{ReadsOn};
 ghost use Rattle.gin_cleanup.specs.Cleaning.{IsCleaning};
-ghost use Rattle.gin_cleanup.specs.Measure.{ComesNearer};
 ghost use Rattle.gin_cleanup.specs.Going.{IsCause};
 ghost use Rattle.gin_cleanup.specs.Inner.Noting.{IsReadNext, HasTaken, HasKept, EndsBefore, HasNoted};
 ghost use Rattle.gin_cleanup.specs.Inner.Between.{HasNext};
+ghost use Rattle.gin_cleanup.specs.Inner.Stepping.{StepEnds};
 
 use crate::first_page::hold_meta;
 use crate::gathered::Gathered;
 use crate::listed::{are_documents, goes_on, items_of, rows_of};
 use buffer_frames::{Frames, Pass};
-use core_maintenance::placing_keeps;
 use disk_trait::Disk;
 use gin_place::{PlaceError, Placing, hold_seen, release};
 use page_types::{Page, Rows};
@@ -78,7 +77,6 @@ impl Cleanup {
         ensures fine { OnOk result (MetNoFault D.Disk frames.old frames.new) }
         ensures fault { IfErr result (λ e. FaultBy D.Disk frames.old frames.new e) }
     {
-        placing_keeps();
         let (meta, names) = hold_meta(frames, pass)?;
         release(frames, pass, meta);
         Ok(Cleanup {
@@ -175,17 +173,8 @@ impl Cleanup {
         requires some { 0 < self.old.left }
         requires next { IsReadNext page self.old }
         requires cleaning { (from : ℕ) × IsCleaning D.Disk frames.old pass.old from self.old }
-        ensures cleaning { (from : ℕ) → IsCleaning D.Disk frames.old pass.old from self.old
-            → IsCleaning D.Disk frames.new pass.new from self.new }
-        ensures reads { ReadsOn D.Disk frames.old pass.old frames.new pass.new }
-        ensures none_held { pass.new.held ≡ 0 }
-        ensures lower { OnOk result (ComesNearer frames.old frames.new self.old self.new) }
-        ensures cause { IfErr result (λ e. Finds D.Disk frames.old pass.old
-            (IsCause D.Disk frames.new e)) }
-        ensures fine { OnOk result (MetNoFault D.Disk frames.old frames.new) }
-        ensures fault { IfErr result (λ e. FaultBy D.Disk frames.old frames.new e) }
+        ensures { StepEnds D.Disk frames.old pass.old frames.new pass.new self.old self.new result }
     {
-        placing_keeps();
         if self.has_read_all() {
             self.next_key();
             return Ok(());

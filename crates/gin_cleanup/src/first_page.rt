@@ -4,6 +4,7 @@ ghost use Rattle.wal.specs.Waiting.{down_of};
 ghost use Rattle.page_types.specs.Numbers.{page_limit};
 ghost use Rattle.page_types.specs.Pages.{IsPage};
 ghost use Rattle.page_types.specs.declared.page.Body.TheVariants as body;
+ghost use Rattle.core_state.specs.States.{StateTells};
 ghost use Rattle.buffer_frames.specs.LogCauses.{IsCalm};
 ghost use Rattle.buffer_frames.specs.Passes.{IsPassOf, IsHolding, Seen};
 ghost use Rattle.gin_place.specs.Placing.{HasRight};
@@ -11,19 +12,17 @@ ghost use Rattle.gin_place.specs.Causes.{Finds};
 ghost use Rattle.gin_place.specs.Faults.{MetNoFault, FaultBy};
 ghost use Rattle.gin_place.specs.Holding.{ReadsOn};
 ghost use Rattle.gin_cleanup.specs.Cleaning.{IsCleaning};
-ghost use Rattle.gin_cleanup.specs.Measure.{ComesNearer};
-ghost use Rattle.gin_cleanup.specs.Going.{CleansOn, IsRowPage, IsBadList, IsCause};
+ghost use Rattle.gin_cleanup.specs.Going.{IsRowPage, IsBadList, IsCause};
 ghost use Rattle.gin_cleanup.specs.Inner.Shifting.{IsFirst, IsMetaWithout, IsDeletedOf, IsShiftStep, IsFate, HasNoFate};
 ghost use Rattle.gin_cleanup.specs.Inner.Shifting.{HoldsFirst, MayShift, LogsShift, HasTurned, HasTurnedAgain, HasGone};
+ghost use Rattle.gin_cleanup.specs.Inner.Stepping.{StepEnds};
 ghost use Rattle.gin_cleanup.specs.declared.cleanup.Stage.TheVariants as stages;
 
-use crate::asks::Length;
 use crate::cleanup::{Cleanup, Stage};
 use crate::listed::{ListNames, META_PAGE, named_by, rows_of};
 use buffer_frames::{Frames, Held, Pass, Step};
-use core_maintenance::{moving_steps_hold, placing_keeps, shift_keeps};
 use disk_trait::Disk;
-use gin_place::{PlaceError, ask, hold_page, hold_seen, release, two_step};
+use gin_place::{PlaceError, hold_page, hold_seen, release, two_step};
 use page_types::{Body, Gone, Kind, Page, Rows};
 use std::alloc::{AllocError, Global};
 
@@ -33,15 +32,6 @@ pub(crate) struct First {
     pub(crate) meta: Held,
     pub(crate) names: ListNames,
     pub(crate) page: Held,
-}
-
-/// What becomes of the first page.
-#[derive(Drop)]
-pub(crate) enum Fate {
-    /// It is read again, since rows came to it.
-    Grown,
-    /// It goes by this step.
-    Gone(Step),
 }
 
 /// Holds the metapage; the pass has then seen all of the log. With it comes what it names.
@@ -58,6 +48,8 @@ pub(crate) fn hold_meta<D: Disk>(
     ensures names { IfOk result (λ r. r.0.content.body ≡ body.Meta r.1.first r.1.last r.1.pages) }
     ensures seen { IfOk result (λ r. Seen D.Disk frames.new pass.new
         (λ S P. P r.0.page ≡ r.0.content)) }
+    ensures told { OnOk result (Seen D.Disk frames.new pass.new
+        (λ S P. StateTells S frames.new.journal.state)) }
 
     // The refusals: no page is held.
     ensures still { OnErr result (pass.new.held ≡ 0) }
@@ -92,7 +84,7 @@ fn give_back<D: Disk>(frames: &mut Frames<D>, pass: &mut Pass, first: First)
     release(frames, pass, meta);
 }
 
-/// Holds the metapage and the first page of the list; the pass has then seen all of the log.
+/// Holds the metapage and the first page of the list; the pass has then seen both in the log.
 fn hold_first<D: Disk>(frames: &mut Frames<D>, pass: &mut Pass) -> Result<First, PlaceError>
     requires pass { IsPassOf frames.old pass.old }
     requires right { HasRight pass.old }
@@ -110,20 +102,11 @@ fn hold_first<D: Disk>(frames: &mut Frames<D>, pass: &mut Pass) -> Result<First,
     ensures fine { OnOk result (MetNoFault D.Disk frames.old frames.new) }
     ensures fault { IfErr result (λ e. FaultBy D.Disk frames.old frames.new e) }
 {
-    placing_keeps();
     let (meta, names) = hold_meta(frames, pass)?;
-    let page = match hold_page(frames, pass, names.first) {
-        Ok(page) => page,
+    match hold_page(frames, pass, names.first) {
+        Ok(page) => Ok(First { meta, names, page }),
         Err(error) => {
             release(frames, pass, meta);
-            return Err(error);
-        }
-    };
-    let first = First { meta, names, page };
-    match ask(frames, pass, &Length) {
-        Ok(_) => Ok(first),
-        Err(error) => {
-            give_back(frames, pass, first);
             Err(error)
         }
     }
@@ -180,9 +163,14 @@ fn shift_step(alloc: Global, first: &First, rows: &Rows) -> Result<Step, AllocEr
     )
 }
 
-/// What becomes of the first page, of which so many rows were noted, where the list may be read again so
-/// many times more.
-fn fate_of(alloc: Global, first: &First, noted: usize, turns: u32) -> Result<Fate, PlaceError>
+/// The step by which the first page goes, of which so many rows were noted; None where rows came to it, and
+/// the list may be read again so many times more.
+fn fate_of(
+    alloc: Global,
+    first: &First,
+    noted: usize,
+    turns: u32,
+) -> Result<Option<Step>, PlaceError>
     requires names { first.now.meta.content.body
         ≡ body.Meta first.now.names.first first.now.names.last first.now.names.pages }
     ensures fate { IfOk result (IsFate first.now.meta first.now.page noted turns) }
@@ -197,9 +185,9 @@ fn fate_of(alloc: Global, first: &First, noted: usize, turns: u32) -> Result<Fat
         if turns == 0 {
             return Err(PlaceError::OutOfMemory);
         }
-        return Ok(Fate::Grown);
+        return Ok(None);
     }
-    Ok(Fate::Gone(shift_step(alloc, first, rows)?))
+    Ok(Some(shift_step(alloc, first, rows)?))
 }
 
 /// Logs a Shift on the pages that are held; they are given back.
@@ -228,28 +216,6 @@ fn log_shift<D: Disk>(
     let First { meta, page, .. } = first;
     pages.push_reserved(page);
     pages.push_reserved(meta);
-    log_pages(frames, pass, pages, step)
-}
-
-/// Logs a Shift on pages that are held; they are given back.
-fn log_pages<D: Disk>(
-    frames: &mut Frames<D>,
-    pass: &mut Pass,
-    pages: Vec<Held>,
-    step: Step,
-) -> Result<(), PlaceError>
-    requires { MayShift D.Disk frames.old pass.old pages.items step }
-    ensures none_held { pass.new.held ≡ 0 }
-    ensures logged { OnOk result
-        (LogsShift D.Disk frames.old pass.old pages.items step frames.new pass.new) }
-    ensures refused { OnErr result (ReadsOn D.Disk frames.old pass.old frames.new pass.new) }
-    ensures cause { IfErr result (λ e.
-        IsCause D.Disk frames.new e frames.old pass.old) }
-    ensures fine { OnOk result (MetNoFault D.Disk frames.old frames.new) }
-    ensures fault { IfErr result (λ e. FaultBy D.Disk frames.old frames.new e) }
-{
-    placing_keeps();
-    shift_keeps();
     frames.log_step(pass, pages, step)?;
     Ok(())
 }
@@ -313,30 +279,17 @@ impl Cleanup {
         requires left { 0 < self.old.left }
         requires stage { self.old.stage ≡ stages.Shifting }
         requires cleaning { (from : ℕ) × IsCleaning D.Disk frames.old pass.old from self.old }
-        ensures cleaning { (from : ℕ) → IsCleaning D.Disk frames.old pass.old from self.old
-            → IsCleaning D.Disk frames.new pass.new from self.new }
-        ensures none_held { pass.new.held ≡ 0 }
-        ensures works { OnOk result ((kinds : List ℕ) × (length kinds ≤ 1)
-            × CleansOn D.Disk frames.old pass.old frames.new pass.new kinds) }
-        ensures refused { OnErr result (CleansOn D.Disk frames.old pass.old frames.new pass.new []) }
-        ensures lower { OnOk result (ComesNearer frames.old frames.new self.old self.new) }
-        ensures cause { IfErr result (λ e. Finds D.Disk frames.old pass.old
-            (IsCause D.Disk frames.new e)) }
-        ensures fine { OnOk result (MetNoFault D.Disk frames.old frames.new) }
-        ensures fault { IfErr result (λ e. FaultBy D.Disk frames.old frames.new e) }
+        ensures { StepEnds D.Disk frames.old pass.old frames.new pass.new self.old self.new result }
     {
-        placing_keeps();
-        shift_keeps();
-        moving_steps_hold();
         let first = hold_first(frames, pass)?;
         let (number, right) = (first.page.number(), first.page.page().right);
         match fate_of(alloc, &first, self.noted(), self.turns) {
-            Ok(Fate::Gone(step)) => {
+            Ok(Some(step)) => {
                 log_shift(alloc, frames, pass, first, step)?;
                 self.page_gone(alloc, right);
                 Ok(())
             }
-            Ok(Fate::Grown) => {
+            Ok(None) => {
                 give_back(frames, pass, first);
                 self.read_again(alloc, number);
                 Ok(())

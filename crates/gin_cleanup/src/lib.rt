@@ -6,7 +6,6 @@
 //! shifted.
 #![tactic(auto)]
 
-mod asks;
 mod cleanup;
 mod first_page;
 mod gathered;

@@ -1,17 +1,14 @@
 // The steps of a cleanup.
-ghost use Rattle.std.specs.Prelude.{◌≡◌, ℕ, ◌<◌, ◌≤◌, List, [], length, IfErr, OnOk, OnErr};
+ghost use Rattle.std.specs.Prelude.{◌≡◌, ℕ, ◌<◌};
 ghost use Rattle.buffer_frames.specs.Passes.{IsPassOf};
 ghost use Rattle.gin_place.specs.Placing.{HasRight};
-ghost use Rattle.gin_place.specs.Causes.{Finds};
-ghost use Rattle.gin_place.specs.Faults.{MetNoFault, FaultBy};
 ghost use Rattle.gin_cleanup.specs.Cleaning.{IsCleaning};
-ghost use Rattle.gin_cleanup.specs.Measure.{ComesNearer};
-ghost use Rattle.gin_cleanup.specs.Going.{CleansOn, IsCause, HasCleaned};
+ghost use Rattle.gin_cleanup.specs.Going.{HasCleaned};
 ghost use Rattle.gin_cleanup.specs.Inner.Between.{IsKeyStage};
+ghost use Rattle.gin_cleanup.specs.Inner.Stepping.{StepEnds};
 
 use crate::cleanup::{Cleanup, Stage};
 use buffer_frames::{Frames, Pass};
-use core_maintenance::placing_keeps;
 use disk_trait::Disk;
 use gin_opclass::key_class;
 use gin_place::PlaceError;
@@ -30,19 +27,8 @@ impl Cleanup {
         requires none { pass.old.held ≡ 0 }
         requires stage { IsKeyStage self.old.stage }
         requires cleaning { (from : ℕ) × IsCleaning D.Disk frames.old pass.old from self.old }
-        ensures cleaning { (from : ℕ) → IsCleaning D.Disk frames.old pass.old from self.old
-            → IsCleaning D.Disk frames.new pass.new from self.new }
-        ensures none_held { pass.new.held ≡ 0 }
-        ensures works { OnOk result ((kinds : List ℕ) × (length kinds ≤ 1)
-            × CleansOn D.Disk frames.old pass.old frames.new pass.new kinds) }
-        ensures refused { OnErr result (CleansOn D.Disk frames.old pass.old frames.new pass.new []) }
-        ensures lower { OnOk result (ComesNearer frames.old frames.new self.old self.new) }
-        ensures cause { IfErr result (λ e. Finds D.Disk frames.old pass.old
-            (IsCause D.Disk frames.new e)) }
-        ensures fine { OnOk result (MetNoFault D.Disk frames.old frames.new) }
-        ensures fault { IfErr result (λ e. FaultBy D.Disk frames.old frames.new e) }
+        ensures { StepEnds D.Disk frames.old pass.old frames.new pass.new self.old self.new result }
     {
-        placing_keeps();
         let class = key_class();
         let Stage::Placing {
             key,
@@ -78,19 +64,8 @@ impl Cleanup {
         requires none { pass.old.held ≡ 0 }
         requires left { 0 < self.old.left }
         requires cleaning { (from : ℕ) × IsCleaning D.Disk frames.old pass.old from self.old }
-        ensures cleaning { (from : ℕ) → IsCleaning D.Disk frames.old pass.old from self.old
-            → IsCleaning D.Disk frames.new pass.new from self.new }
-        ensures none_held { pass.new.held ≡ 0 }
-        ensures works { OnOk result ((kinds : List ℕ) × (length kinds ≤ 1)
-            × CleansOn D.Disk frames.old pass.old frames.new pass.new kinds) }
-        ensures refused { OnErr result (CleansOn D.Disk frames.old pass.old frames.new pass.new []) }
-        ensures lower { OnOk result (ComesNearer frames.old frames.new self.old self.new) }
-        ensures cause { IfErr result (λ e. Finds D.Disk frames.old pass.old
-            (IsCause D.Disk frames.new e)) }
-        ensures fine { OnOk result (MetNoFault D.Disk frames.old frames.new) }
-        ensures fault { IfErr result (λ e. FaultBy D.Disk frames.old frames.new e) }
+        ensures { StepEnds D.Disk frames.old pass.old frames.new pass.new self.old self.new result }
     {
-        placing_keeps();
         match &self.stage {
             Stage::Reading { page, .. } => {
                 let page = *page;
@@ -116,7 +91,6 @@ impl Cleanup {
         ensures { (from : ℕ) → IsCleaning D.Disk frames.old pass.old from self.old
             → HasCleaned D.Disk frames.old pass.old frames.new pass.new from self.old self.new result }
     {
-        placing_keeps();
         if self.left == 0 {
             return Ok(false);
         }

@@ -1,5 +1,6 @@
 -- What a Shift leaves, and when a pass may log it.
 use Rattle.std.specs.Prelude.{◌≡◌, ◌-◌, ◌^◌, ◌<◌, ◌≤◌, ℕ, suc, List, [], ◌∷◌, length, Vec, ⊤}
+use Rattle.std.specs.Prelude.{Option, Some, None}
 use Rattle.std.specs.declared.alloc.Global.{Global}
 use Rattle.disk_trait.specs.declared.device.Disk.{Ghosts as Disk}
 use Rattle.page_types.specs.Numbers.{page_limit}
@@ -14,7 +15,6 @@ use Rattle.core_state.specs.Log.{Log, Pages}
 use Rattle.core_state.specs.Index.{Line}
 use Rattle.core_state.specs.Allowed.{Sheet, Step, MayLog, Owes}
 use Rattle.core_state.specs.PendingRules.{IsLastAfter}
-use Rattle.core_state.specs.States.{StateValue}
 use Rattle.core_state.specs.Steps.{sheet}
 use Rattle.buffer_frames.specs.Drawing.{HasEncoding}
 use Rattle.buffer_frames.specs.Frames.{FramesValue, Stands, Behind}
@@ -24,16 +24,9 @@ use Rattle.gin_place.specs.Placing.{HasRight}
 use Rattle.gin_place.specs.declared.error.PlaceError.{PlaceError}
 use Rattle.gin_place.specs.declared.error.PlaceError.TheVariants.{BadPage, OutOfMemory}
 use Rattle.gin_cleanup.specs.Going.{CleansOn}
-use Rattle.gin_cleanup.specs.declared.asks.Length.{Length}
 use Rattle.gin_cleanup.specs.declared.cleanup.Cleanup.{Cleanup}
 use Rattle.gin_cleanup.specs.declared.cleanup.Stage.TheVariants as stage
 use Rattle.gin_cleanup.specs.declared.first_page.First.{First}
-use Rattle.gin_cleanup.specs.declared.first_page.Fate.{Fate}
-use Rattle.gin_cleanup.specs.declared.first_page.Fate.TheVariants as fate
-
--- how many records the log has
-abbrev pub length_answer : Length → StateValue → ℕ → ℕ → ℕ → Type 0
-length_answer ask s floor since n = n ≡ s.records
 
 -- the page is the first of the list
 abbrev pub IsFirst : Pages → ℕ → Type 0
@@ -67,11 +60,11 @@ pub record IsShiftStep (meta page : Sheet) (s : Step) : Type 0 where
   pub pages : IsPage meta_then × IsPage deleted
   pub low : (meta.page < page_limit) × (page.page < page_limit)
 
--- what becomes of the first page, of which so many rows were noted, where the list may be read again so many times
-pub data IsFate (meta page : Sheet) (noted turns : ℕ) : Fate → Type 0 where
-  grown : noted < length (rows_of page.content) → 0 < turns → IsFate meta page noted turns fate.Grown
-  goes : (step : Step) → length (rows_of page.content) ≤ noted → IsShiftStep meta page step
-      → IsFate meta page noted turns (fate.Gone step)
+-- What becomes of the first page, of which so many rows were noted, where the list may be read again so many times:
+-- it goes by this step, or rows came to it, and it is read again.
+abbrev pub IsFate : Sheet → Sheet → ℕ → ℕ → Option Step → Type 0
+IsFate meta page noted turns (Some step) = (length (rows_of page.content) ≤ noted) × IsShiftStep meta page step
+IsFate meta page noted turns None = (noted < length (rows_of page.content)) × (0 < turns)
 
 -- why that is not said: it is no page of rows; or there is no memory, or the list is not read again
 abbrev pub HasNoFate : Sheet → PlaceError → Type 0

@@ -2,7 +2,7 @@ use Rattle.std.proofs.Common.{◌≡◌, [], ◌∷◌, sym, subst}
 use Rattle.std.proofs.lemmas.Result.{err_from_is_err_and}
 use Rattle.page_types.specs.declared.page.Page.{Page}
 use Rattle.page_types.specs.declared.page.Body.TheVariants as body
-use Rattle.core_state.proofs.LawsHold.{pages as pages_told}
+use Rattle.core_state.specs.States.{StateTells}
 use Rattle.buffer_frames.specs.Frames.{Lies}
 use Rattle.buffer_frames.specs.Passes.{IsHolding, Seen}
 use Rattle.buffer_frames.proofs.Exits.{on_refusal}
@@ -35,9 +35,10 @@ returns-in_err-held g c =
       number = none_ok r p.0 (λ x. (x.0).page ≡ 0) p.1;
       names = none_ok r p.0 (λ x. (x.0).content.body ≡ body.Meta (x.1).first (x.1).last (x.1).pages) p.1;
       seen = none_ok r p.0 (λ x. Seen g.D.Disk last pass (λ S P. P (x.0).page ≡ (x.0).content)) p.1;
+      told = no_ok r p.0 (Seen g.D.Disk last pass (λ S P. StateTells S last.journal.state)) p.1;
       still = on_refusal _ r e.still;
       cause = at_exit (λ x. Finds g.D.Disk f c.args.pass.now (IsCause g.D.Disk last x)) r p.0 w p.1 p.2
-          (meta_cause g.D.Disk pages_told last w f c.args.pass.now e.cause);
+          (meta_cause g.D.Disk last w f c.args.pass.now e.cause);
       fine = no_ok r p.0 (MetNoFault g.D.Disk f last) p.1;
       fault = at_exit (λ x. FaultBy g.D.Disk f last x) r p.0 w p.1 p.2 e.fault;
     }
@@ -53,6 +54,7 @@ returns-in-Some g c =
           ≡ body.Meta c.in-Some.names.first c.in-Some.names.last c.in-Some.names.pages) c.page.ensures.value
           c.in-Some.ensures.some;
       seen = e.seen;
+      told = e.told;
       still = tt;
       cause = tt;
       fine = e.fine;
@@ -81,9 +83,10 @@ returns-in-None g c =
       number = tt;
       names = tt;
       seen = tt;
+      told = tt;
       still = sym (c.release.ensures.holding [] c.in_ok-held.ensures.holding).all;
       cause = finds_now g.D.Disk f c.args.pass.now (IsCause g.D.Disk last (BadPage 0)) c.requires.pass
-          (bad_meta g.D.Disk pages_told f c.args.pass.now c.requires.pass
+          (bad_meta g.D.Disk f c.args.pass.now c.requires.pass
           (CannotUse.other c.page.result.now c.page.ensures.is_page lies c.in-None.ensures.none));
       fine = tt;
       fault = fine_then g.D.Disk f c.hold_seen.new.frames last c.in_ok-held.ensures.fine

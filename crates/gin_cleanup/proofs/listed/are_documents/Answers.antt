@@ -1,10 +1,11 @@
-use Rattle.std.proofs.Common.{◌<◌, ◌≤◌, ◌+◌, List, length, refl, sym, subst, inl, inr, arith}
+use Rattle.std.proofs.Common.{◌<◌, ◌≤◌, ◌+◌, List, false, length, refl, sym, subst, inl, inr, arith}
 use Rattle.std.proofs.lemmas.List.{take_all}
 use Rattle.page_types.specs.Parts.{row_shown}
 use Rattle.page_types.specs.declared.page.Row.{Row}
 use Rattle.core_state.specs.Log.{In}
 use Rattle.gin_cleanup.proofs.PutRows.{in_more, last_in}
 use Rattle.gin_cleanup.proofs.RowLists.{in_take}
+use Rattle.gin_cleanup.proofs.Tests.{not_both, not_above}
 use Rattle.gin_cleanup.proofs.listed.are_documents.Goals as goal
 use Rattle.gin_cleanup.proofs.listed.are_documents.Goals.{in-Some+else-row-eq0, in_default}
 
@@ -23,8 +24,8 @@ returns-then-row-eq0 c =
     let rows = c.args.rows.now in
     let row = row_shown c.in-Some.row in
     let on : In row rows = in_take (c.loop-k.k + 1) row rows (last_in rows c.loop-k.k row c.in-Some.ensures.some) in (
-      λ yes. absurd (cc),
-      λ each. let some = each row on in absurd (omega (arith, some, c.if-row-eq0.true)),
+      λ e. absurd (not_both false e refl),
+      λ each. absurd (not_above row.item (each row on) c.if-row-eq0.true),
     )
 
 pub returns : goal.returns

@@ -1,5 +1,5 @@
-use Rattle.std.proofs.Common.{◌∷◌, ◌++◌, [], ℕ, List, map, take, sym, ap, ◌∙◌, arith}
-use Rattle.std.proofs.lemmas.List.{map-append}
+use Rattle.std.proofs.Common.{◌≤◌, ◌∷◌, ◌++◌, [], ℕ, List, length, map, take, sym, ap, ◌∙◌, arith}
+use Rattle.std.proofs.lemmas.List.{map-append, take_all}
 use Rattle.std.specs.Prelude.{Vec}
 use Rattle.std.specs.declared.alloc.Global.{Global}
 use Rattle.page_types.specs.Parts.{row_shown}
@@ -19,3 +19,8 @@ loop-k-preserved c = elim c.match-get.branch [
       ∙ map-append f (take c.loop-k.k c.args.rows.now) (row ∷ []))
   | in_default w ↦ absurd (omega (arith, w.in_default.ensures.none, c.loop-k-test.true, c.len-k-end.ensures))
 ]
+
+pub returns : goal.returns
+returns c =
+    let far : length c.args.rows.now ≤ c.loop-k.k = omega (arith, c.loop-k-test.false, c.len-k-end.ensures) in
+    c.loop-k.invariant ∙ ap (map (λ (v : Row). v.item)) (take_all c.loop-k.k c.args.rows.now far)

@@ -1,4 +1,4 @@
-use Rattle.std.proofs.Common.{not, length, sym, ap, subst, arith}
+use Rattle.std.proofs.Common.{not, false, length, refl, sym, ap, subst, arith}
 use Rattle.gin_cleanup.specs.Inner.Noting.{GoesOnWith}
 use Rattle.gin_cleanup.proofs.Tests.{not_both}
 use Rattle.gin_cleanup.proofs.cleanup.Cleanup.ends_before.Goals as goal
@@ -13,3 +13,6 @@ returns-then-len-ge-MOST_PAGES c = λ not_so. record {
       not_both (not c.goes_on.result) not_so
       (ap not ((c.goes_on.ensures).1 (subst (GoesOnWith c.args.rows.now) (sym c.as_slice.ensures.value) goes)));
 }
+
+pub returns-in_default : goal.returns-in_default
+returns-in_default c = λ e. absurd (not_both false e refl)

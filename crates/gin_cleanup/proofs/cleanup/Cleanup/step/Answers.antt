@@ -21,7 +21,7 @@ returns-then-self-eq0 g c = λ from was.
       works = (
         [],
         omega arith,
-        cleans_by g.D.Disk c.placing_keeps.ensures.history f f p p []
+        cleans_by g.D.Disk f f p p []
             (reads_still g.D.Disk f p c.requires.pass (same_added g.D.Disk f)).works,
       );
       refused = tt;
@@ -32,6 +32,15 @@ returns-then-self-eq0 g c = λ from was.
       fault = tt;
     }
 
+pub go_on-requires : goal.go_on-requires
+go_on-requires g c = record {
+  pass = c.requires.pass;
+  right = c.requires.right;
+  none = c.requires.none;
+  left = omega (arith, c.if-self-eq0.false);
+  cleaning = c.requires.cleaning;
+}
+
 pub returns-in_err-go_on : goal.returns-in_err-go_on
 returns-in_err-go_on g c = λ from was.
     let r = err_from_is_err_and c.from_residual.result c.from_residual.ensures.1 in
@@ -41,7 +50,7 @@ returns-in_err-go_on g c = λ from was.
       cleaning = c.go_on.ensures.cleaning from was;
       ends = tt;
       none_held = c.go_on.ensures.none_held;
-      works = ([], omega arith, c.in_err-go_on.ensures.refused);
+      works = c.in_err-go_on.ensures.works;
       refused = c.in_err-go_on.ensures.refused;
       lower = tt;
       cause = c.in_err-go_on.ensures.cause;

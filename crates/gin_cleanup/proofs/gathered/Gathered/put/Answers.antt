@@ -23,6 +23,10 @@ one : (i j : ℕ) → In i (j ∷ []) → i ≡ j
 one i j (inl e) = e
 one i j (inr n) = absurd n
 
+on_err : {A E P : Type 0} (r : Result A E) → P → OnErr r P
+on_err (Ok x) p = tt
+on_err (Err e) p = p
+
 pub returns-in_err-push-clause-err : goal.returns-in_err-push-clause-err
 returns-in_err-push-clause-err c =
     let key = c.args.key.now in
@@ -40,10 +44,6 @@ returns-in_err-push-clause-err c =
           (inl (subst (λ (x : KeyItems). Has x k i) (sym c.self.view_is) h))),
     ))
   where
-    on_err : {A E P : Type 0} (r : Result A E) → P → OnErr r P
-    on_err (Ok x) p = tt
-    on_err (Err e) p = p
-
     only : {A B : Type 0} → A ⊎ (B × ⊥) → A
     only (inl a) = a
     only (inr b) = absurd b.1
@@ -133,3 +133,16 @@ invariant_of-self-2 c =
     let entries : c.insert.new.self.entries ≡ insert_entry cmp es copy new =
     c.in_ok-insert.ensures.entries ∙ ap (λ x. insert_entry cmp x copy new) same in
     subst (λ x. HaveItems (shown x)) (sym entries) (insert_some cmp copy new some es c.self.invariant)
+
+pub invariant_of-self-in_err-items : goal.invariant_of-self-in_err-items
+invariant_of-self-in_err-items c =
+    subst (λ x. HaveItems (shown x)) (sym (ap (λ m. m.entries) c.get_mut.follows.holds-at-none)) c.self.invariant
+
+pub invariant_of-self-in_err-copy : goal.invariant_of-self-in_err-copy
+invariant_of-self-in_err-copy c =
+    subst (λ x. HaveItems (shown x)) (sym (ap (λ m. m.entries) c.get_mut.follows.holds-at-none)) c.self.invariant
+
+pub invariant_of-self-in_err-insert : goal.invariant_of-self-in_err-insert
+invariant_of-self-in_err-insert c =
+    subst (λ x. HaveItems (shown x)) (sym (c.in_err-insert.ensures.err ∙ ap (λ m. m.entries)
+    c.get_mut.follows.holds-at-none)) c.self.invariant
