@@ -20,19 +20,19 @@ use Rattle.gin_vacuum.proofs.SweepCauses.{cause_later}
 use Rattle.gin_vacuum.proofs.Swept.{at_on}
 
 -- the pages of which the last one comes first, where there is a leaf before the empty one, and where there is none
-pub around_some : (a : Around) (b : Sheet) (l0 l1 l2 l3 l4 : List Sheet) → a.before ≡ Some b → l0 ≡ [] → l1 ≡ l0
+pub around_some : (a : Around) (b : Sheet) (l1 l2 l3 l4 : List Sheet) → a.before ≡ Some b → l1 ≡ []
     → l2 ≡ l1 ++ a.leaf ∷ [] → l3 ≡ l2 ++ b ∷ [] → l4 ≡ l3 ++ a.parent ∷ [] → l4 ≡ around_pages a
-around_some a b l0 l1 l2 l3 l4 is e0 e1 e2 e3 e4 =
+around_some a b l1 l2 l3 l4 is e1 e2 e3 e4 =
     e4
     ∙ ap (λ (l : List Sheet). l ++ a.parent ∷ [])
-    (e3 ∙ ap (λ (l : List Sheet). l ++ b ∷ []) (e2 ∙ ap (λ (l : List Sheet). l ++ a.leaf ∷ []) (e1 ∙ e0)))
+    (e3 ∙ ap (λ (l : List Sheet). l ++ b ∷ []) (e2 ∙ ap (λ (l : List Sheet). l ++ a.leaf ∷ []) e1))
     ∙ ap (λ (o : Option Sheet). a.leaf ∷ with_before o (a.parent ∷ [])) (sym is)
 
-pub around_none : (a : Around) (l0 l1 l2 l3 : List Sheet) → a.before ≡ None → l0 ≡ [] → l1 ≡ l0
+pub around_none : (a : Around) (l1 l2 l3 : List Sheet) → a.before ≡ None → l1 ≡ []
     → l2 ≡ l1 ++ a.leaf ∷ [] → l3 ≡ l2 ++ a.parent ∷ [] → l3 ≡ around_pages a
-around_none a l0 l1 l2 l3 is e0 e1 e2 e3 =
+around_none a l1 l2 l3 is e1 e2 e3 =
     e3
-    ∙ ap (λ (l : List Sheet). l ++ a.parent ∷ []) (e2 ∙ ap (λ (l : List Sheet). l ++ a.leaf ∷ []) (e1 ∙ e0))
+    ∙ ap (λ (l : List Sheet). l ++ a.parent ∷ []) (e2 ∙ ap (λ (l : List Sheet). l ++ a.leaf ∷ []) e1)
     ∙ ap (λ (o : Option Sheet). a.leaf ∷ with_before o (a.parent ∷ [])) (sym is)
 
 -- a leaf more may be held

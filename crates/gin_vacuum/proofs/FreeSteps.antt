@@ -1,10 +1,12 @@
 -- The steps by which chains and slots of dead documents go may be logged.
-use Rattle.std.proofs.Common.{◌≡◌, ◌≢◌, ◌<◌, ◌≤◌, ◌-◌, ◌^◌, ℕ, List, [], ◌∷◌, ◌++◌, length, refl, sym, ap, subst}
+use Rattle.std.proofs.Common.{◌≡◌, ◌≢◌, ◌<◌, ◌≤◌, ◌-◌, ◌^◌, ℕ, List, [], ◌∷◌, length, refl, sym, ap, subst}
 use Rattle.std.proofs.Common.{◌∙◌, inl, inr, arith, length-drop}
-use Rattle.std.specs.Prelude.{Option, Some, None}
+use Rattle.std.specs.Prelude.{Option, Some, None, Result, Ok, Err, IfOk, OnOk}
+use Rattle.std.specs.declared.alloc.AllocError.{AllocError}
 use Rattle.std.specs.List.{AllByRecursion}
 use Rattle.disk_trait.specs.declared.device.Disk.{Ghosts as Disk}
 use Rattle.page_types.specs.Keys.{Rising}
+use Rattle.page_types.specs.Numbers.{page_limit}
 use Rattle.page_types.specs.Pages.{IsPage}
 use Rattle.page_types.specs.Records.{IsKind, kind_number}
 use Rattle.page_types.specs.Views.{slot_at, slots_in}
@@ -36,7 +38,7 @@ use Rattle.doc_heap.specs.declared.leaving.Chain.TheVariants as chain
 use Rattle.gin_place.specs.Placing.{HasRight}
 use Rattle.gin_place.proofs.Owing.{right_of}
 use Rattle.gin_vacuum.specs.Going.{IsVacuumKind}
-use Rattle.gin_vacuum.specs.Inner.Freeing.{IsChained, HasNoChain, KeepsAs, LeavesBoth, IsDropStep}
+use Rattle.gin_vacuum.specs.Inner.Freeing.{IsChained, HasNoChain, KeepsAs, IsDeletedOf, IsDropStep}
 use Rattle.gin_vacuum.specs.Inner.Freeing.{IsFreeStep}
 use Rattle.gin_vacuum.specs.Inner.Logging.{MayLogStep}
 use Rattle.gin_vacuum.specs.declared.freeing.Chained.{Chained}
@@ -261,21 +263,29 @@ module _ {D : Type 0} (device : Disk D) (f : FramesValue D) (p : Pass) (of : IsP
     }
 
 -- the step that was made of both pages
-pub drop_made : (heap page : Sheet) (found : Chained) (s t : Step)
-    → s ≡ record { kind = kind.DropPage found.item found.serial; xid = 0; after = [] }
-    → LeavesBoth heap page found s t → IsDropStep heap page found t
-drop_made heap page found s t new both = record {
-  heap_then = both.heap_then;
-  deleted = both.deleted;
-  kind_is = ap (λ (u : Step). u.kind) both.left ∙ ap (λ (u : Step). u.kind) new;
-  xid = ap (λ (u : Step). u.xid) both.left ∙ ap (λ (u : Step). u.xid) new;
-  after_is = ap (λ (u : Step). u.after) both.left
-      ∙ ap (λ (u : Step). (u.after ++ sheet heap.page both.heap_then ∷ []) ++ sheet page.page both.deleted ∷ []) new;
-  changes = both.changes;
-  deleted_is = both.deleted_is;
-  pages = both.pages;
-  low = both.low;
+pub drop_made : (heap page : Sheet) (found : Chained) (heap_then deleted : Page) (r : Result Step AllocError)
+    → IfOk r (λ s. s ≡ record {
+      kind = kind.DropPage found.item found.serial;
+      xid = 0;
+      after = sheet heap.page heap_then ∷ sheet page.page deleted ∷ [];
+    })
+    → OnOk r ((heap.page < page_limit) × (page.page < page_limit))
+    → ((h : Head) → head_on heap.content (slot_of found.item) ≡ Some h
+    → ChangesSlot heap.content (slot_of found.item) (Some (with_first found.chain page.content.right h)) heap_then)
+    → IsDeletedOf found.chain page.content deleted → IsPage heap_then → IsPage deleted
+    → IfOk r (IsDropStep heap page found)
+drop_made heap page found heap_then deleted (Ok s) is low changes gone page_then page_gone = record {
+  heap_then = heap_then;
+  deleted = deleted;
+  kind_is = ap (λ (u : Step). u.kind) is;
+  xid = ap (λ (u : Step). u.xid) is;
+  after_is = ap (λ (u : Step). u.after) is;
+  changes = changes;
+  deleted_is = gone;
+  pages = (page_then, page_gone);
+  low = low;
 }
+drop_made heap page found heap_then deleted (Err e) is low changes gone page_then page_gone = tt
 
 -- what a change of a copy of a page is of the page
 pub changes_by : (c : Chain) (old heap new : Page) (slot k right next : ℕ) → old ≡ heap → slot ≡ k → right ≡ next

@@ -25,6 +25,7 @@ mod Passing
 mod Removals
 mod Groups
 mod LoggedOn
+mod Made
 mod OutOn
 mod FreeingOn
 mod FreeSteps

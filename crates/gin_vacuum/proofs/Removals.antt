@@ -2,7 +2,8 @@
 use Rattle.std.proofs.Common.{◌≡◌, ◌≢◌, ◌<◌, ◌-◌, ℕ, List, [], ◌∷◌, length, refl, sym, ap, subst, inl}
 use Rattle.std.proofs.Common.{inr, arith}
 use Rattle.std.proofs.Common.{length-drop, Some}
-use Rattle.std.specs.Prelude.{Option, None}
+use Rattle.std.specs.Prelude.{Option, None, Result, IfOk}
+use Rattle.std.specs.declared.alloc.AllocError.{AllocError}
 use Rattle.disk_trait.specs.declared.device.Disk.{Ghosts as Disk}
 use Rattle.page_types.specs.Numbers.{page_limit}
 use Rattle.page_types.specs.Pages.{IsPage}
@@ -23,8 +24,9 @@ use Rattle.buffer_frames.specs.declared.pass.Pass.{Pass}
 use Rattle.buffer_frames.proofs.AtHand.{log_length}
 use Rattle.gin_place.specs.Holding.{ReadsOn}
 use Rattle.gin_place.proofs.Owing.{right_of}
-use Rattle.gin_vacuum.specs.Inner.Logging.{MayLogStep}
+use Rattle.gin_vacuum.specs.Inner.Logging.{MayLogStep, LogsStep, LogsMade}
 use Rattle.gin_vacuum.specs.Inner.Sweeping.{IsRemoval, HasCleaned}
+use Rattle.gin_vacuum.proofs.Made.{in_ok}
 
 -- a leaf that is left is no free page
 left_used : (gone : List ℕ) (old new : Body) → IsLeafLeft gone old new → new ≢ body.Free
@@ -40,6 +42,14 @@ none_cleaned device f g p q held (Some x) not reads = absurd (not x refl)
 
 abbrev pub removal_step : ℕ → Page → Step
 removal_step page new = record { kind = kind.RemoveItems; xid = 0; after = sheet page new ∷ [] }
+
+-- the step that was made so is logged
+pub removal_logged : {D : Type 0} (device : Disk D) (f : FramesValue D) (p : Pass) (held : Sheet) (new : Page)
+    (made : Result Step AllocError) → IfOk made (λ s. s ≡ removal_step held.page new) → (h : FramesValue D) (q : Pass)
+    → LogsMade device f p (held ∷ []) made h q → LogsStep device f p (held ∷ []) (removal_step held.page new) h q
+removal_logged device f p held new made is h q logs =
+    subst (λ (s : Step). LogsStep device f p (held ∷ []) s h q)
+    (in_ok made logs.step (λ s. s ≡ removal_step held.page new) logs.made_is is) logs.logged
 
 module _ {D : Type 0} (device : Disk D) (f : FramesValue D) (p : Pass) (dead : List ℕ) (held : Sheet) (new : Page)
     (x : IsRemoval device f p dead held (Some new)) (low : held.page < page_limit) where

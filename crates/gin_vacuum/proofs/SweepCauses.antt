@@ -1,5 +1,5 @@
 -- Why a page is not held, or a step not logged, in a sweep.
-use Rattle.std.proofs.Common.{◌≡◌, ◌<◌, ◌≤◌, ◌^◌, ◌-◌, ℕ, refl, sym, ap, subst, inl, inr, arith}
+use Rattle.std.proofs.Common.{◌≡◌, ◌≤◌, ℕ, refl, sym, ap, subst, inl, inr, arith}
 use Rattle.std.specs.Prelude.{Option, Some, None, ⊤}
 use Rattle.std.specs.Option.{unwrap_or}
 use Rattle.disk_trait.specs.declared.device.Disk.{Ghosts as Disk}
@@ -8,7 +8,6 @@ use Rattle.core_state.specs.PageChoice.{IsLeast, AreBelow}
 use Rattle.buffer_frames.specs.Frames.{FramesValue}
 use Rattle.buffer_frames.specs.declared.pass.Pass.{Pass}
 use Rattle.gin_place.specs.Causes.{CannotUse, CannotHold}
-use Rattle.gin_place.specs.Stepping.{reads_left}
 use Rattle.gin_place.specs.declared.error.PlaceError.{PlaceError}
 use Rattle.gin_place.specs.declared.error.PlaceError.TheVariants.{StoreFull, LogFull, DiskFault, Down, BadPage}
 use Rattle.gin_place.specs.declared.error.PlaceError.TheVariants.{OutOfMemory}
@@ -43,12 +42,6 @@ module _ {D : Type 0} (device : Disk D) (Bad : FramesValue D → ℕ → Type 0)
   cause_as Bad' l (Down n) f p to c = c
   cause_as Bad' l (BadPage q) f p to c = to q c
   cause_as Bad' l OutOfMemory f p to c = tt
-
--- how many pages more may be read falls
-pub lower_left : (o : Option ℕ) (extent left : ℕ) → left ≡ unwrap_or o extent → left < 2 ^ 32 → (left ≡ 0 → ⊥)
-    → left - 1 < reads_left o
-lower_left None extent left is low some = omega (arith, low, some)
-lower_left (Some n) extent left is low some = let same : left ≡ n = is in omega (arith, same, some)
 
 -- where none more may be
 pub spent : {D : Type 0} (o : Option ℕ) (f : FramesValue D) (extent : ℕ) → IsLeast (AreBelow f.journal.state) extent

@@ -49,9 +49,6 @@ module _ {A : Type 0} (xs : List A) (k : ℕ) (x : A) (get : slice_get xs k ≡ 
 
 -- ---- the items of rows ----
 
-pub met_none : (dead old : List ℕ) → HaveMet [] dead old old
-met_none dead old i = (λ on. inl on, λ h. elim h [ inl on ↦ on | inr m ↦ absurd m.1.1 ])
-
 module _ (rows : List Row) (k : ℕ) (w : Row) (get : slice_get rows k ≡ Some w) (dead old met : List ℕ)
     (had : HaveMet (take k rows) dead old met) where
   -- one row more, of a dead item
@@ -152,9 +149,6 @@ item_above last (x ∷ xs) (suc k) y are e =
 pub record AreOthersTo (dead met : List ℕ) (k : ℕ) (items : List ℕ) : Type 0 where
   pub each : (i : ℕ) → In i items ↔ (In i (take k dead) × (In i met → ⊥))
   pub rise : AreItems items
-
-pub others_none : (dead met : List ℕ) → AreOthersTo dead met 0 []
-others_none dead met = record { each = λ i. (λ on. absurd on, λ h. absurd h.0); rise = tt }
 
 module _ (dead met items : List ℕ) (k y : ℕ) (are : AreItems dead) (get : slice_get dead k ≡ Some y)
     (had : AreOthersTo dead met k items) where

@@ -18,9 +18,9 @@ ghost use Rattle.gin_vacuum.specs.Stepping.{IsCause, LeadsTo, IsEmptyPage};
 ghost use Rattle.gin_vacuum.specs.Inner.Deleting.{with_before, around_pages, left_before, deleted_leaf, IsBefore};
 ghost use Rattle.gin_vacuum.specs.Inner.Deleting.{IsAround, IsDeleteStep, IsWithout, IsFoundEmpty, IsBadAround};
 ghost use Rattle.gin_vacuum.specs.Inner.Deleting.{LogsDelete};
-ghost use Rattle.gin_vacuum.specs.Inner.Logging.{MayLogStep, LogsStep, CannotLog};
+ghost use Rattle.gin_vacuum.specs.Inner.Logging.{MayLogMade, LogsMade, CannotLog};
 
-use crate::logging::{leave, log_pages};
+use crate::logging::{leave, log_pages, with_room};
 use buffer_frames::{Frames, Held, Pass, Step};
 use disk_trait::Disk;
 use gin_place::{PlaceError, hold_page, release};
@@ -310,8 +310,6 @@ fn give_all_back<D: Disk>(frames: &mut Frames<D>, pass: &mut Pass, around: Aroun
     ensures reads { ReadsOn D.Disk frames.old pass.old frames.new pass.new }
     ensures none_held { pass.new.held ≡ 0 }
     ensures calm { IsCalm D.Disk frames.old.journal frames.new.journal }
-    ensures at_rest { (n : ℕ) → down_of frames.old.journal.wal ≡ Some n
-        → frames.new.journal ≡ frames.old.journal }
 {
     let Around {
         leaf,
@@ -322,43 +320,46 @@ fn give_all_back<D: Disk>(frames: &mut Frames<D>, pass: &mut Pass, around: Aroun
     give_back(frames, pass, before, parent);
 }
 
-/// Logs a step on these pages, which are given back.
+/// Logs the step that was made, if any was, on these pages, which are given back.
 fn log_around<D: Disk>(
     alloc: Global,
     frames: &mut Frames<D>,
     pass: &mut Pass,
     around: Around,
-    step: Step,
+    made: Result<Step, AllocError>,
 ) -> Result<(), PlaceError>
-    requires { MayLogStep D.Disk frames.old pass.old (around_pages around) step }
+    requires { MayLogMade D.Disk frames.old pass.old (around_pages around) made }
     ensures none_held { pass.new.held ≡ 0 }
-    ensures logged { OnOk result (LogsStep D.Disk frames.old pass.old (around_pages around) step
+    ensures logged { OnOk result (LogsMade D.Disk frames.old pass.old (around_pages around) made
         frames.new pass.new) }
     ensures refused { OnErr result (ReadsOn D.Disk frames.old pass.old frames.new pass.new) }
     ensures cause { IfErr result (λ e. CannotLog D.Disk frames.new e frames.old pass.old) }
     ensures fine { OnOk result (MetNoFault D.Disk frames.old frames.new) }
     ensures fault { IfErr result (λ e. FaultBy D.Disk frames.old frames.new e) }
 {
-    let mut pages = Vec::new(alloc);
-    if pages.reserve(3).is_err() {
-        give_all_back(frames, pass, around);
-        return Err(PlaceError::OutOfMemory);
-    }
-    let Around {
-        leaf,
-        before,
-        parent,
-    } = around;
-    pages.push_reserved(leaf);
-    match before {
-        Some(before) => {
-            pages.push_reserved(before);
-            pages.push_reserved(parent);
-            log_pages(frames, pass, pages, step)
+    match with_room(alloc, made, 3) {
+        Ok((step, mut pages)) => {
+            let Around {
+                leaf,
+                before,
+                parent,
+            } = around;
+            pages.push_reserved(leaf);
+            match before {
+                Some(before) => {
+                    pages.push_reserved(before);
+                    pages.push_reserved(parent);
+                    log_pages(frames, pass, pages, step)
+                }
+                None => {
+                    pages.push_reserved(parent);
+                    log_pages(frames, pass, pages, step)
+                }
+            }
         }
-        None => {
-            pages.push_reserved(parent);
-            log_pages(frames, pass, pages, step)
+        Err(_) => {
+            give_all_back(frames, pass, around);
+            Err(PlaceError::OutOfMemory)
         }
     }
 }
@@ -397,11 +398,6 @@ pub(crate) fn delete_leaf<D: Disk>(
             return Err(error);
         }
     };
-    match delete_step(alloc, &around, without, empty) {
-        Ok(step) => log_around(alloc, frames, pass, around, step),
-        Err(_) => {
-            give_all_back(frames, pass, around);
-            Err(PlaceError::OutOfMemory)
-        }
-    }
+    let made = delete_step(alloc, &around, without, empty);
+    log_around(alloc, frames, pass, around, made)
 }

@@ -14,7 +14,7 @@ ghost use Rattle.gin_vacuum.specs.Inner.Finding.{HasTaken, HasKept};
 use crate::asks::{Dead, DeadOn, HeapFrom};
 use buffer_frames::{Frames, Pass};
 use disk_trait::Disk;
-use gin_place::{PlaceError, hold_page, release};
+use gin_place::{PlaceError, ask, hold_page, release};
 use page_types::{Body, Page};
 use posting_code::ItemSet;
 use std::alloc::{AllocError, Global};
@@ -70,12 +70,12 @@ fn read_dead<D: Disk>(
         release(frames, pass, held);
         return Err(PlaceError::BadPage { page: number });
     }
-    let found = frames.look(pass, &DeadOn { alloc, held: &held });
+    let found = ask(frames, pass, &DeadOn { alloc, held: &held });
     release(frames, pass, held);
     match found {
         Ok(Ok(dead)) => Ok(dead),
         Ok(Err(_)) => Err(PlaceError::OutOfMemory),
-        Err(error) => Err(PlaceError::from(error)),
+        Err(error) => Err(error),
     }
 }
 

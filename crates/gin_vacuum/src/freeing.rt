@@ -1,8 +1,7 @@
 // Dead documents lose their chains, and then their slots.
-ghost use Rattle.std.specs.Prelude.{◌≡◌, ◌≢◌, ℕ, ◌-◌, ◌<◌, ◌≤◌, List, [], ◌∷◌, length, take, drop, true};
+ghost use Rattle.std.specs.Prelude.{◌≡◌, ◌≢◌, ◌↔◌, ℕ, ◌-◌, ◌<◌, ◌≤◌, List, [], ◌∷◌, length, take, drop, true};
 ghost use Rattle.std.specs.Prelude.{Some, false, get_or, IfOk, IfErr, OnOk, OnErr, IfSome, IfNone};
 ghost use Rattle.std.specs.List.{AllByRecursion};
-ghost use Rattle.wal.specs.Waiting.{down_of};
 ghost use Rattle.page_types.specs.Items.{AreItems};
 ghost use Rattle.page_types.specs.Numbers.{item_limit};
 ghost use Rattle.page_types.specs.Pages.{IsPage};
@@ -26,15 +25,15 @@ ghost use Rattle.gin_vacuum.specs.Ending.{VacuumMeets, NeverBad};
 ghost use Rattle.gin_vacuum.specs.Vacuum.{AreOut, AreFreedSince};
 ghost use Rattle.gin_vacuum.specs.Freeing.{IsFreeing, IsFreeKind, IsPageOf, CannotFree, ComesNearer, HasFreed};
 ghost use Rattle.gin_vacuum.specs.Inner.Freeing.{IsChained, HasNoChain, AreFree, IsDeletedOf, IsDropStep, IsFreeStep};
-ghost use Rattle.gin_vacuum.specs.Inner.Freeing.{LeavesBoth, LogsDrop, LogsFree};
-ghost use Rattle.gin_vacuum.specs.Inner.Logging.{MayLogStep, LogsStep, CannotLog};
+ghost use Rattle.gin_vacuum.specs.Inner.Freeing.{LogsDrop, LogsFree};
+ghost use Rattle.gin_vacuum.specs.Inner.Logging.{MayLogMade, LogsMade, CannotLog};
 
 use crate::finding::is_heap;
-use crate::logging::{leave, log_one, log_pages, one_step};
+use crate::logging::{log_one, log_pages, with_room};
 use buffer_frames::{Frames, Held, Pass, Step};
 use disk_trait::Disk;
 use doc_heap::{Chain, drop_page, free_items, head};
-use gin_place::{PlaceError, hold_page, hold_seen, release};
+use gin_place::{PlaceError, hold_page, hold_seen, one_step, release, two_step};
 use page_types::{Body, Gone, HeadFields, Kind, MOST_SLOTS, Page};
 use posting_code::ItemSet;
 use std::alloc::{AllocError, Global};
@@ -131,23 +130,34 @@ fn end_of(items: &[u32], from: usize, page: u32) -> usize
     items.len()
 }
 
-/// The page, deleted, as one of such a chain; none of another page.
-fn deleted(page: &Page, chain: Chain) -> Result<Option<Page>, AllocError>
-    requires { IsPage page.now }
-    ensures deleted { IfOk result (λ o. IfSome o (IsDeletedOf chain page.now)) }
-    ensures is_page { IfOk result (λ o. IfSome o IsPage) }
-    ensures none { IfOk result (λ o. IfNone o (IsPageOf chain page.now → ⊥)) }
+/// Whether a page is one of such a chain.
+fn is_of(page: &Page, chain: Chain) -> bool
+    ensures { (result ≡ true) ↔ IsPageOf chain page.now }
+{
+    match (chain, &page.body) {
+        (Chain::Overflow, Body::Overflow(_)) => true,
+        (Chain::Private, Body::Pending(_)) => true,
+        _ => false,
+    }
+}
+
+/// A page of such a chain, deleted.
+fn deleted(page: &Page, chain: Chain) -> Result<Page, AllocError>
+    requires page { IsPage page.now }
+    requires chain { IsPageOf chain page.now }
+    ensures deleted { IfOk result (IsDeletedOf chain page.now) }
+    ensures is_page { IfOk result IsPage }
 {
     let kept = match (chain, &page.body) {
         (Chain::Overflow, Body::Overflow(bytes)) => Gone::Overflow(bytes.clone()?),
         (Chain::Private, Body::Pending(rows)) => Gone::Pending(rows.clone()?),
-        _ => return Ok(None),
+        _ => unreachable!(),
     };
-    Ok(Some(Page {
+    Ok(Page {
         right: page.right,
         stamp: page.stamp,
         body: Body::Deleted(kept),
-    }))
+    })
 }
 
 /// The heap page without the first page of a chain.
@@ -165,40 +175,25 @@ fn without_first(both: &Both, found: Chained) -> Result<Page, AllocError>
     Ok(heap)
 }
 
-/// The step leaves both pages too, as they are once the first page of a chain is gone; false where that is
-/// no page of such a chain.
-fn leave_both(step: &mut Step, both: &Both, found: Chained) -> Result<bool, AllocError>
-    requires { IsChained both.now.heap.content found }
-    ensures left { IfOk result (λ b. b ≡ true → LeavesBoth both.now.heap both.now.page found step.old step.new) }
-    ensures none { IfOk result (λ b. b ≡ false → IsPage both.now.page.content
-        × (IsPageOf found.chain both.now.page.content → ⊥)) }
-{
-    let heap = without_first(both, found)?;
-    leave(step, &both.heap, heap)?;
-    let Some(gone) = deleted(both.page.page(), found.chain)? else {
-        return Ok(false);
-    };
-    leave(step, &both.page, gone)?;
-    Ok(true)
-}
-
-/// The step by which the first page of a chain goes; none where it is no page of such a chain.
-fn drop_step(alloc: Global, both: &Both, found: Chained) -> Result<Option<Step>, AllocError>
-    requires { IsChained both.now.heap.content found }
-    ensures step { IfOk result (λ o. IfSome o (IsDropStep both.now.heap both.now.page found)) }
-    ensures none { IfOk result (λ o. IfNone o (IsPage both.now.page.content
-        × (IsPageOf found.chain both.now.page.content → ⊥))) }
+/// The step by which the first page of a chain goes.
+fn drop_step(alloc: Global, both: &Both, found: Chained) -> Result<Step, AllocError>
+    requires chain { IsChained both.now.heap.content found }
+    requires page { IsPageOf found.chain both.now.page.content }
+    ensures { IfOk result (IsDropStep both.now.heap both.now.page found) }
 {
     let kind = Kind::DropPage {
         item: found.item,
         serial: found.serial,
     };
-    let mut step = Step::new(alloc, kind, 0);
-    let is_chain = leave_both(&mut step, both, found)?;
-    if !is_chain {
-        return Ok(None);
+    let heap = without_first(both, found)?;
+    match deleted(both.page.page(), found.chain) {
+        Ok(gone) => two_step(alloc, kind, (&both.heap, heap), (&both.page, gone)),
+        Err(error) => {
+            // one call to prove; left to go out of scope it is walked through
+            drop(heap);
+            Err(error)
+        }
     }
-    Ok(Some(step))
 }
 
 /// Gives both pages back.
@@ -209,71 +204,39 @@ fn give_back<D: Disk>(frames: &mut Frames<D>, pass: &mut Pass, both: Both)
     ensures reads { ReadsOn D.Disk frames.old pass.old frames.new pass.new }
     ensures none_held { pass.new.held ≡ 0 }
     ensures calm { IsCalm D.Disk frames.old.journal frames.new.journal }
-    ensures at_rest { (n : ℕ) → down_of frames.old.journal.wal ≡ Some n
-        → frames.new.journal ≡ frames.old.journal }
 {
     let Both { heap, page } = both;
     release(frames, pass, page);
     release(frames, pass, heap);
 }
 
-/// Logs a step on both pages, which are given back.
+/// Logs the step that was made, if any was, on both pages, which are given back.
 fn log_both<D: Disk>(
     alloc: Global,
     frames: &mut Frames<D>,
     pass: &mut Pass,
     both: Both,
-    step: Step,
+    made: Result<Step, AllocError>,
 ) -> Result<(), PlaceError>
-    requires { MayLogStep D.Disk frames.old pass.old (both.page ∷ both.heap ∷ []) step }
+    requires { MayLogMade D.Disk frames.old pass.old (both.page ∷ both.heap ∷ []) made }
     ensures none_held { pass.new.held ≡ 0 }
-    ensures logged { OnOk result (LogsStep D.Disk frames.old pass.old (both.page ∷ both.heap ∷ []) step
+    ensures logged { OnOk result (LogsMade D.Disk frames.old pass.old (both.page ∷ both.heap ∷ []) made
         frames.new pass.new) }
     ensures refused { OnErr result (ReadsOn D.Disk frames.old pass.old frames.new pass.new) }
     ensures cause { IfErr result (λ e. CannotLog D.Disk frames.new e frames.old pass.old) }
     ensures fine { OnOk result (MetNoFault D.Disk frames.old frames.new) }
     ensures fault { IfErr result (λ e. FaultBy D.Disk frames.old frames.new e) }
 {
-    let mut pages = Vec::new(alloc);
-    if pages.reserve(2).is_err() {
-        give_back(frames, pass, both);
-        return Err(PlaceError::OutOfMemory);
-    }
-    let Both { heap, page } = both;
-    pages.push_reserved(page);
-    pages.push_reserved(heap);
-    log_pages(frames, pass, pages, step)
-}
-
-/// Holds the first page of a chain, where the heap page is held.
-fn hold_both<D: Disk>(
-    frames: &mut Frames<D>,
-    pass: &mut Pass,
-    heap: Held,
-    found: Chained,
-) -> Result<Both, PlaceError>
-    requires pass { IsPassOf frames.old pass.old }
-    requires right { HasRight pass.old }
-    requires holding { IsHolding D.Disk frames.old pass.old (heap ∷ []) }
-    requires lawful { CannotUse frames.old (IsPageOf found.chain) found.page
-        → Behind D.Disk frames.old (λ R. ⊥) }
-    ensures reads { ReadsOn D.Disk frames.old pass.old frames.new pass.new }
-    ensures holding { IfOk result (λ b. IsHolding D.Disk frames.new pass.new (b.page ∷ b.heap ∷ [])) }
-    ensures both { IfOk result (λ b. (b.heap ≡ heap) × (b.page.page ≡ found.page)) }
-    ensures lies { IfOk result (λ b. Lies frames.old found.page b.page.content) }
-
-    // The refusals: no page is held.
-    ensures still { OnErr result (pass.new.held ≡ 0) }
-    ensures cause { IfErr result (λ e. Finds D.Disk frames.old pass.old
-        (CannotFree D.Disk frames.new e)) }
-    ensures fine { OnOk result (MetNoFault D.Disk frames.old frames.new) }
-    ensures fault { IfErr result (λ e. FaultBy D.Disk frames.old frames.new e) }
-{
-    match hold_page(frames, pass, found.page) {
-        Ok(page) => Ok(Both { heap, page }),
-        Err(error) => {
-            release(frames, pass, heap);
-            Err(error)
+    match with_room(alloc, made, 2) {
+        Ok((step, mut pages)) => {
+            let Both { heap, page } = both;
+            pages.push_reserved(page);
+            pages.push_reserved(heap);
+            log_pages(frames, pass, pages, step)
+        }
+        Err(_) => {
+            give_back(frames, pass, both);
+            Err(PlaceError::OutOfMemory)
         }
     }
 }
@@ -302,33 +265,38 @@ fn drop_first<D: Disk>(
     ensures fine { OnOk result (MetNoFault D.Disk frames.old frames.new) }
     ensures fault { IfErr result (λ e. FaultBy D.Disk frames.old frames.new e) }
 {
-    let both = hold_both(frames, pass, heap, found)?;
-    match drop_step(alloc, &both, found) {
-        Ok(Some(step)) => log_both(alloc, frames, pass, both, step),
-        Ok(None) => {
-            give_back(frames, pass, both);
-            Err(PlaceError::BadPage { page: found.page })
+    let page = match hold_page(frames, pass, found.page) {
+        Ok(page) => page,
+        Err(error) => {
+            release(frames, pass, heap);
+            return Err(error);
         }
-        Err(_) => {
-            give_back(frames, pass, both);
-            Err(PlaceError::OutOfMemory)
-        }
+    };
+    let both = Both { heap, page };
+    if !is_of(both.page.page(), found.chain) {
+        give_back(frames, pass, both);
+        return Err(PlaceError::BadPage { page: found.page });
     }
+    let made = drop_step(alloc, &both, found);
+    log_both(alloc, frames, pass, both, made)
 }
 
 /// The step by which the slots of these items become free; none where they are.
-fn free_step(alloc: Global, heap: &Held, items: &[u32]) -> Result<Option<Step>, AllocError>
+fn free_step(alloc: Global, heap: &Held, items: &[u32]) -> Option<Result<Step, AllocError>>
     requires { IsHeap heap.now.content }
-    ensures step { IfOk result (λ o. IfSome o (IsFreeStep heap.now items.now)) }
-    ensures none { IfOk result (λ o. IfNone o (AreFree heap.now.content items.now)) }
+    ensures step { IfSome result (λ made. IfOk made (IsFreeStep heap.now items.now)) }
+    ensures none { IfNone result (AreFree heap.now.content items.now) }
 {
-    let mut page = heap.page().clone()?;
-    let frees = free_items(&mut page, items);
-    let step = one_step(alloc, Kind::FreeSlots, heap, page)?;
-    if !frees {
-        return Ok(None);
+    let mut page = match heap.page().clone() {
+        Ok(page) => page,
+        Err(error) => return Some(Err(error)),
+    };
+    if !free_items(&mut page, items) {
+        // one call to prove; left to go out of scope it is walked through
+        drop(page);
+        return None;
     }
-    Ok(Some(step))
+    Some(one_step(alloc, Kind::FreeSlots, (heap, page)))
 }
 
 /// Makes the slots of these items free on a heap page that is held; it is given back.
@@ -354,17 +322,11 @@ fn free_all<D: Disk>(
     ensures fine { OnOk result (MetNoFault D.Disk frames.old frames.new) }
     ensures fault { IfErr result (λ e. FaultBy D.Disk frames.old frames.new e) }
 {
-    match free_step(alloc, &heap, items) {
-        Ok(Some(step)) => log_one(alloc, frames, pass, heap, step),
-        Ok(None) => {
-            release(frames, pass, heap);
-            Ok(())
-        }
-        Err(_) => {
-            release(frames, pass, heap);
-            Err(PlaceError::OutOfMemory)
-        }
-    }
+    let Some(made) = free_step(alloc, &heap, items) else {
+        release(frames, pass, heap);
+        return Ok(());
+    };
+    log_one(alloc, frames, pass, heap, made)
 }
 
 /// Holds the heap page of an item, alone; the pass has then seen all of the log.

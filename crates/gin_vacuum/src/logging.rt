@@ -1,15 +1,15 @@
 // Records on pages that are held.
-ghost use Rattle.std.specs.Prelude.{◌≡◌, ◌<◌, [], ◌∷◌, ◌++◌, IfOk, IfErr, OnOk, OnErr};
+ghost use Rattle.std.specs.Prelude.{◌≡◌, ◌<◌, ◌≤◌, [], ◌∷◌, ◌++◌, Ok, IfOk, IfErr, OnOk, OnErr, vec_capacity};
 ghost use Rattle.page_types.specs.Numbers.{page_limit};
 ghost use Rattle.core_state.specs.Steps.{sheet};
 ghost use Rattle.gin_place.specs.Faults.{MetNoFault, FaultBy};
 ghost use Rattle.gin_place.specs.Holding.{ReadsOn};
-ghost use Rattle.gin_vacuum.specs.Inner.Logging.{MayLogStep, LogsStep, CannotLog};
+ghost use Rattle.gin_vacuum.specs.Inner.Logging.{MayLogStep, MayLogMade, LogsStep, LogsMade, CannotLog};
 
 use buffer_frames::{Frames, Held, Pass, Sheet, Step};
 use disk_trait::Disk;
 use gin_place::{PlaceError, release};
-use page_types::{Kind, Page};
+use page_types::Page;
 use std::alloc::{AllocError, Global};
 
 /// Logs a step on pages that are held; they are given back.
@@ -41,47 +41,46 @@ pub(crate) fn leave(step: &mut Step, held: &Held, page: Page) -> Result<(), Allo
     step.leave(Sheet::new(held.number(), page))
 }
 
-/// The step of this kind that leaves this page under the number of one that is held.
-pub(crate) fn one_step(
+/// The step that was made, and room for so many pages to log it with.
+pub(crate) fn with_room(
     alloc: Global,
-    kind: Kind,
-    held: &Held,
-    page: Page,
-) -> Result<Step, AllocError>
-    ensures step { IfOk result (λ s. s ≡ record {
-      kind = kind;
-      xid = 0;
-      after = sheet held.now.page page ∷ [];
-    }) }
-    ensures low { OnOk result (held.now.page < page_limit) }
+    made: Result<Step, AllocError>,
+    pages: usize,
+) -> Result<(Step, Vec<Held>), AllocError>
+    ensures made { IfOk result (λ r. made ≡ Ok r.0) }
+    ensures none { IfOk result (λ r. (r.1).items ≡ []) }
+    ensures room { IfOk result (λ r. pages ≤ vec_capacity r.1) }
 {
-    let mut step = Step::new(alloc, kind, 0);
-    leave(&mut step, held, page)?;
-    Ok(step)
+    let step = made?;
+    let room = Vec::with_capacity(alloc, pages)?;
+    Ok((step, room))
 }
 
-/// Logs a step on one page that is held; it is given back.
+/// Logs the step that was made, if any was, on one page that is held; it is given back.
 pub(crate) fn log_one<D: Disk>(
     alloc: Global,
     frames: &mut Frames<D>,
     pass: &mut Pass,
     page: Held,
-    step: Step,
+    made: Result<Step, AllocError>,
 ) -> Result<(), PlaceError>
-    requires { MayLogStep D.Disk frames.old pass.old (page ∷ []) step }
+    requires { MayLogMade D.Disk frames.old pass.old (page ∷ []) made }
     ensures none_held { pass.new.held ≡ 0 }
     ensures logged { OnOk result
-        (LogsStep D.Disk frames.old pass.old (page ∷ []) step frames.new pass.new) }
+        (LogsMade D.Disk frames.old pass.old (page ∷ []) made frames.new pass.new) }
     ensures refused { OnErr result (ReadsOn D.Disk frames.old pass.old frames.new pass.new) }
     ensures cause { IfErr result (λ e. CannotLog D.Disk frames.new e frames.old pass.old) }
     ensures fine { OnOk result (MetNoFault D.Disk frames.old frames.new) }
     ensures fault { IfErr result (λ e. FaultBy D.Disk frames.old frames.new e) }
 {
-    let mut pages = Vec::new(alloc);
-    if pages.reserve(1).is_err() {
-        release(frames, pass, page);
-        return Err(PlaceError::OutOfMemory);
+    match with_room(alloc, made, 1) {
+        Ok((step, mut pages)) => {
+            pages.push_reserved(page);
+            log_pages(frames, pass, pages, step)
+        }
+        Err(_) => {
+            release(frames, pass, page);
+            Err(PlaceError::OutOfMemory)
+        }
     }
-    pages.push_reserved(page);
-    log_pages(frames, pass, pages, step)
 }

@@ -35,11 +35,10 @@ ghost use Rattle.gin_vacuum.specs.Inner.Sweeping.{begun};
 ghost use Rattle.gin_vacuum.specs.declared.sweeping.Stage.TheVariants as stages;
 
 use crate::deleting::{Empty, delete_leaf};
-use crate::logging::{log_one, one_step};
+use crate::logging::log_one;
 use buffer_frames::{Frames, Held, Pass};
-use core_maintenance::ways_lead;
 use disk_trait::Disk;
-use gin_place::{PlaceError, hold_seen, release};
+use gin_place::{PlaceError, hold_seen, one_step, release};
 use page_types::{Body, Entries, Kind, Page, PostingsRef};
 use posting_code::ItemSet;
 use posting_tree::{Found, find, left_leaf_may_be_logged, remove, unlink};
@@ -258,13 +257,8 @@ fn log_cleaned<D: Disk>(
         release(frames, pass, held);
         return Ok(());
     };
-    match one_step(alloc, Kind::RemoveItems, &held, page) {
-        Ok(step) => log_one(alloc, frames, pass, held, step),
-        Err(_) => {
-            release(frames, pass, held);
-            Err(PlaceError::OutOfMemory)
-        }
-    }
+    let made = one_step(alloc, Kind::RemoveItems, (&held, page));
+    log_one(alloc, frames, pass, held, made)
 }
 
 /// Holds the page that is read next, alone; with it comes how many pages more may be read after it.
@@ -399,7 +393,6 @@ impl Sweeping {
             held left frames.new pass.new self.new result }
         ensures lower { OnOk result (steps_left self.new < steps_left self.old) }
     {
-        ways_lead();
         let next = way_on(held.page());
         release(frames, pass, held);
         match next {
@@ -433,7 +426,6 @@ impl Sweeping {
             frames.new pass.new self.new result }
         ensures lower { OnOk result (steps_left self.new < steps_left self.old) }
     {
-        ways_lead();
         let read = match read_leaf(alloc, &held, dead) {
             Ok(read) => read,
             Err(error) => {
@@ -472,7 +464,6 @@ impl Sweeping {
             self.old.left_below held left frames.new pass.new self.new result }
         ensures lower { OnOk result (steps_left self.new < steps_left self.old) }
     {
-        ways_lead();
         let next = tree_way_on(held.page());
         release(frames, pass, held);
         match next {
@@ -513,7 +504,6 @@ impl Sweeping {
             held left frames.new pass.new self.new result }
         ensures lower { OnOk result (steps_left self.new < steps_left self.old) }
     {
-        ways_lead();
         let read = match read_posts(alloc, &held, dead) {
             Ok(read) => read,
             Err(error) => {
@@ -560,7 +550,6 @@ impl Sweeping {
             self.new result }
         ensures lower { OnOk result (steps_left self.new < steps_left self.old) }
     {
-        ways_lead();
         let Some(child) = child_toward(held.page(), empty.high) else {
             release(frames, pass, held);
             return Err(PlaceError::BadPage { page });
@@ -664,7 +653,6 @@ impl Sweeping {
         ensures ends { IfOk result (λ more. (more ≡ false) ↔ (self.new.stage ≡ stages.Done)) }
         ensures lower { IfOk result (λ more. more ≡ true → steps_left self.new < steps_left self.old) }
     {
-        ways_lead();
         let Some((page, before)) = self.next() else {
             return Ok(false);
         };

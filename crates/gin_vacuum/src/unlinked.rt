@@ -12,7 +12,6 @@ ghost use Rattle.gin_vacuum.specs.Unlinked.{AreUnlinked, IsMetaPage, CannotList}
 ghost use Rattle.gin_vacuum.specs.Inner.Unlinked.{HaveMet, AreOthers, IsWalk, HasNoted};
 
 use buffer_frames::{Frames, Pass};
-use core_maintenance::placing_keeps;
 use disk_trait::Disk;
 use gin_place::{PlaceError, hold_seen, release};
 use page_types::{Body, Page, Rows};
@@ -91,7 +90,6 @@ impl Walk {
         ensures fine { OnOk result (MetNoFault D.Disk frames.old frames.new) }
         ensures fault { IfErr result (λ e. FaultBy D.Disk frames.old frames.new e) }
     {
-        placing_keeps();
         let (meta, _) = hold_seen(frames, pass, META_PAGE)?;
         let named = first_of(meta.page());
         release(frames, pass, meta);
@@ -144,7 +142,6 @@ impl Walk {
         ensures fine { OnOk result (MetNoFault D.Disk frames.old frames.new) }
         ensures fault { IfErr result (λ e. FaultBy D.Disk frames.old frames.new e) }
     {
-        placing_keeps();
         let page = self.page;
         let (held, _) = hold_seen(frames, pass, page)?;
         let noted = self.note(held.page(), dead);

@@ -1,5 +1,5 @@
 -- What is found on a heap page of dead documents, and the steps by which their chains and slots go.
-use Rattle.std.specs.Prelude.{◌≡◌, ◌≢◌, ◌⊎◌, ℕ, ◌<◌, List, [], ◌∷◌, ◌++◌, Some, None}
+use Rattle.std.specs.Prelude.{◌≡◌, ◌≢◌, ◌⊎◌, ℕ, ◌<◌, List, [], ◌∷◌, Some, None}
 use Rattle.disk_trait.specs.declared.device.Disk.{Ghosts as Disk}
 use Rattle.page_types.specs.Numbers.{page_limit}
 use Rattle.page_types.specs.Pages.{IsPage}
@@ -50,19 +50,6 @@ pub record IsDeletedOf (of : Chain) (old new : Page) : Type 0 where
   pub content : Gone
   pub keeps : KeepsAs of old content
   pub same : new ≡ record old { body = body.Deleted content }
-
--- the step is left with both pages as they are once the first page of a chain is gone, after what it had
-pub record LeavesBoth (heap page : Sheet) (found : Chained) (old new : Step) : Type 0 where
-  pub heap_then : Page
-  pub deleted : Page
-  pub left : new ≡ record old {
-    after = (old.after ++ sheet heap.page heap_then ∷ []) ++ sheet page.page deleted ∷ [];
-  }
-  pub changes : (h : Head) → head_on heap.content (slot_of found.item) ≡ Some h
-      → ChangesSlot heap.content (slot_of found.item) (Some (with_first found.chain page.content.right h)) heap_then
-  pub deleted_is : IsDeletedOf found.chain page.content deleted
-  pub pages : IsPage heap_then × IsPage deleted
-  pub low : (heap.page < page_limit) × (page.page < page_limit)
 
 -- the step by which the first page of a chain goes
 pub record IsDropStep (heap page : Sheet) (found : Chained) (s : Step) : Type 0 where

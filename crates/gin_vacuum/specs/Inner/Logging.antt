@@ -1,5 +1,6 @@
 -- What a pass shows of a step on pages that it holds, and what is so once it is logged.
-use Rattle.std.specs.Prelude.{◌≡◌, ◌≤◌, List, [], ◌∷◌, length, Some, ⊤}
+use Rattle.std.specs.Prelude.{◌≡◌, ◌≤◌, List, [], ◌∷◌, length, Some, ⊤, Result, Ok}
+use Rattle.std.specs.declared.alloc.AllocError.{AllocError}
 use Rattle.disk_trait.specs.declared.device.Disk.{Ghosts as Disk}
 use Rattle.wal.specs.Waiting.{down_of}
 use Rattle.page_types.specs.Records.{kind_number}
@@ -34,6 +35,21 @@ module _ {D : Type 0} (device : Disk D) (f : FramesValue D) (pass : Pass) (held 
     pub works : VacuumsOn device f pass f' pass' (kind_number step.kind ∷ [])
     pub all : pass'.seen ≡ f'.journal.state.records
     pub seen : Seen device f' pass' (λ S P. IsLogged (view_of f' pass S held) step S P)
+
+module _ {D : Type 0} (device : Disk D) (f : FramesValue D) (pass : Pass) (held : List Sheet)
+    (made : Result Step AllocError) where
+  -- the step that was made, if any was, may be logged by a pass with the right that holds these pages
+  pub record MayLogMade : Type 0 where
+    pub is_pass : IsPassOf f pass
+    pub right : HasRight pass
+    pub holding : IsHolding device f pass held
+    pub may : (step : Step) → made ≡ Ok step → MayLogStep device f pass held step
+
+  -- a step was made, and it is logged
+  pub record LogsMade (f' : FramesValue D) (pass' : Pass) : Type 0 where
+    pub step : Step
+    pub made_is : made ≡ Ok step
+    pub logged : LogsStep device f pass held step f' pass'
 
 module _ {D : Type 0} (device : Disk D) where
   -- why a step is not logged, by a call that leaves the frames so

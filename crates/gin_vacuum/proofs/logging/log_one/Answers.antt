@@ -1,31 +1,47 @@
-use Rattle.std.proofs.Common.{◌≡◌, List, [], ◌∷◌, ◌++◌, sym, ap, subst, ◌∙◌}
-use Rattle.std.specs.Prelude.{OnOk}
+use Rattle.std.proofs.Common.{◌≡◌, List, [], ◌∷◌, ◌++◌, length, sym, ap, ◌∙◌, arith}
 use Rattle.core_state.specs.Allowed.{Sheet}
-use Rattle.gin_vacuum.specs.Inner.Logging.{MayLogStep, LogsStep}
 use Rattle.gin_place.proofs.Faults.{calm_fine}
+use Rattle.gin_vacuum.proofs.Made.{may_made, logs_made}
 use Rattle.gin_vacuum.proofs.logging.log_one.Goals as goal
 
-pub returns-then-is_err-clause-none_held : goal.returns-then-is_err-clause-none_held
-returns-then-is_err-clause-none_held g c = sym (c.release.ensures.holding [] c.requires.holding).all
+pub push_reserved-requires : goal.push_reserved-requires
+push_reserved-requires g c =
+    omega (arith, c.in-Ok.ensures.room, ap (λ (l : List Sheet). length l) c.in-Ok.ensures.none)
 
 pub log_pages-requires : goal.log_pages-requires
 log_pages-requires g c =
-    let items : c.push_reserved.new.self.items ≡ c.args.page ∷ [] =
-    c.push_reserved.ensures.items
-    ∙ ap (λ (l : List Sheet). l ++ c.args.page ∷ []) (c.reserve.ensures.items ∙ c.new-pages.ensures.items) in
-    subst (λ (l : List Sheet). MayLogStep g.D.Disk c.args.frames.now c.args.pass.now l c.args.step)
-    (sym items) c.requires
+    let pages = c.push_reserved.new.self.items in
+    let all : pages ≡ c.args.page ∷ [] =
+    c.push_reserved.ensures.items ∙ ap (λ (l : List Sheet). l ++ c.args.page ∷ []) c.in-Ok.ensures.none in
+    may_made g.D.Disk c.args.frames.now c.args.pass.now (c.args.page ∷ []) pages c.args.made c.in-Ok.step
+    c.in-Ok.ensures.made all c.requires
 
-pub returns-clause-logged : goal.returns-clause-logged
-returns-clause-logged g c =
-    let items : c.push_reserved.new.self.items ≡ c.args.page ∷ [] =
-    c.push_reserved.ensures.items
-    ∙ ap (λ (l : List Sheet). l ++ c.args.page ∷ []) (c.reserve.ensures.items ∙ c.new-pages.ensures.items) in
-    subst (λ (l : List Sheet). OnOk c.log_pages.result
-    (LogsStep g.D.Disk c.args.frames.now c.args.pass.now l c.args.step c.log_pages.new.frames c.log_pages.new.pass))
-    items
-    c.log_pages.ensures.logged
+pub returns-in-Ok : goal.returns-in-Ok
+returns-in-Ok g c =
+    let e = c.log_pages.ensures in
+    let pages = c.push_reserved.new.self.items in
+    let all : pages ≡ c.args.page ∷ [] =
+    c.push_reserved.ensures.items ∙ ap (λ (l : List Sheet). l ++ c.args.page ∷ []) c.in-Ok.ensures.none in
+    record {
+      none_held = e.none_held;
+      logged = logs_made g.D.Disk c.args.frames.now c.args.pass.now (c.args.page ∷ []) pages c.args.made c.in-Ok.step
+          c.in-Ok.ensures.made all c.log_pages.result c.log_pages.new.frames c.log_pages.new.pass e.logged;
+      refused = e.refused;
+      cause = e.cause;
+      fine = e.fine;
+      fault = e.fault;
+    }
 
-pub returns-then-is_err-clause-fault : goal.returns-then-is_err-clause-fault
-returns-then-is_err-clause-fault g c =
-    calm_fine g.D.Disk c.args.frames.now c.release.new.frames c.release.ensures.calm
+pub release-requires : goal.release-requires
+release-requires g c =
+    record { pass = c.requires.is_pass; right = c.requires.right; holding = ([], c.requires.holding) }
+
+pub returns-in-Err : goal.returns-in-Err
+returns-in-Err g c = record {
+  none_held = sym (c.release.ensures.holding [] c.requires.holding).all;
+  logged = tt;
+  refused = c.release.ensures.reads;
+  cause = tt;
+  fine = tt;
+  fault = calm_fine g.D.Disk c.args.frames.now c.release.new.frames c.release.ensures.calm;
+}

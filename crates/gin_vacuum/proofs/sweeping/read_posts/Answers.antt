@@ -15,7 +15,8 @@ pub is_empty-empty-requires-clause-leaf : goal.is_empty-empty-requires-clause-le
 is_empty-empty-requires-clause-leaf c =
     let e = c.in_ok-cleaned.ensures in
     let x = cleaned_of c.args.dead.now c.page-page.result.now c.in_ok-cleaned.cleaned e.left e.same e.none e.is_page in
-    let a = page_after c.args.dead.now c.page-page.result.now c.as_ref.result c.page-page.result c.in_ok-cleaned.cleaned refl
+    let a = page_after c.args.dead.now c.page-page.result.now c.as_ref.result c.page-page.result
+    c.in_ok-cleaned.cleaned refl
     c.as_ref.ensures.value x c.page-page.ensures.is_page in
     subst IsPostLeaf (sym (ap (λ (b : Bor Page). b.now.body) c.unwrap_or.ensures ∙ a.1))
     (leaf_after c.args.dead.now c.page-page.result.now c.in_ok-cleaned.cleaned x
@@ -25,7 +26,8 @@ pub is_empty-empty-requires-clause-page : goal.is_empty-empty-requires-clause-pa
 is_empty-empty-requires-clause-page c =
     let e = c.in_ok-cleaned.ensures in
     let x = cleaned_of c.args.dead.now c.page-page.result.now c.in_ok-cleaned.cleaned e.left e.same e.none e.is_page in
-    let a = page_after c.args.dead.now c.page-page.result.now c.as_ref.result c.page-page.result c.in_ok-cleaned.cleaned refl
+    let a = page_after c.args.dead.now c.page-page.result.now c.as_ref.result c.page-page.result
+    c.in_ok-cleaned.cleaned refl
     c.as_ref.ensures.value x c.page-page.ensures.is_page in
     subst (λ (b : Bor Page). IsPage b.now) (sym c.unwrap_or.ensures) a.0
 
@@ -33,7 +35,8 @@ pub returns-clause-read : goal.returns-clause-read
 returns-clause-read c =
     let e = c.in_ok-cleaned.ensures in
     let x = cleaned_of c.args.dead.now c.page-page.result.now c.in_ok-cleaned.cleaned e.left e.same e.none e.is_page in
-    let a = page_after c.args.dead.now c.page-page.result.now c.as_ref.result c.page-page.result c.in_ok-cleaned.cleaned refl
+    let a = page_after c.args.dead.now c.page-page.result.now c.as_ref.result c.page-page.result
+    c.in_ok-cleaned.cleaned refl
     c.as_ref.ensures.value x c.page-page.ensures.is_page in
     subst (λ (p : Page). IsReadPosts c.args.dead.now p (record {
       high = c.in-PostLeaf.high;

@@ -2,6 +2,7 @@ use Rattle.std.proofs.Common.{◌≡◌, [], refl, sym, subst, Some}
 use Rattle.page_types.specs.Pages.{IsPage}
 use Rattle.page_types.specs.declared.page.Page.{Page}
 use Rattle.core_state.specs.States.{StateTells}
+use Rattle.core_maintenance.proofs.WaysLead.{ways_hold}
 use Rattle.core_vacuum.proofs.FirstLeaves.{leaves_hold}
 use Rattle.entry_tree.specs.Adding.{IsEntryLeaf}
 use Rattle.entry_tree.specs.Finding.{IsEntryBody}
@@ -27,63 +28,64 @@ release-requires g c =
       holding = ([], w.holding);
     }
 
-pub returns-in-Leaf-clause-swept : goal.returns-in-Leaf-clause-swept
-returns-in-Leaf-clause-swept g c = λ dead w.
-    let h = c.args.held in
-    gone_on g.D.Disk w.frames c.args.frames.now w.pass
-    c.args.pass.now w.right w.is_pass w.none w.reads dead c.args.self.now
-    w.sweeping c.release.new.frames c.release.new.pass h w.holding c.release.ensures.reads
-    (sym (c.release.ensures.holding [] w.holding).all) _ tt
-    (fine_then g.D.Disk w.frames c.args.frames.now c.release.new.frames w.fine
-    (calm_fine g.D.Disk c.args.frames.now c.release.new.frames c.release.ensures.calm))
-    (λ S P. (P h.page ≡ h.content) × StateTells S c.args.frames.now.journal.state)
-    (λ S P some legal shown at x.
-    at_leaf S P some legal shown leaves_hold c.ways_lead.ensures c.args.frames.now.journal.state x.1
-    w.more.0 c.args.left w.more.1 dead c.args.self.now c.args.page h.content
-    (subst (λ n. P n ≡ h.content) w.number x.0) w.more.2
-    (subst (IsAt P dead c.args.self.now) c.requires.stage at)
-    (subst (λ (d : Page). IsEntryLeaf d.body) c.page.ensures.value
-    (subst (IsBelow c.page.result.now.body) c.in-Leaf.is c.way_on-next.ensures)))
-    (λ t up R stands legal P shown.
-    (w.seen t up R stands legal P shown, w.told t up R stands legal P shown)) tt
+pub returns-in-Leaf : goal.returns-in-Leaf
+returns-in-Leaf g c = record {
+  swept = λ dead w.
+      let h = c.args.held in
+      gone_on g.D.Disk w.frames c.args.frames.now w.pass
+      c.args.pass.now w.right w.is_pass w.none w.reads dead c.args.self.now
+      w.sweeping c.release.new.frames c.release.new.pass h w.holding c.release.ensures.reads
+      (sym (c.release.ensures.holding [] w.holding).all) _ tt
+      (fine_then g.D.Disk w.frames c.args.frames.now c.release.new.frames w.fine
+      (calm_fine g.D.Disk c.args.frames.now c.release.new.frames c.release.ensures.calm))
+      (λ S P. (P h.page ≡ h.content) × StateTells S c.args.frames.now.journal.state)
+      (λ S P some legal shown at x.
+      at_leaf S P some legal shown leaves_hold ways_hold c.args.frames.now.journal.state x.1
+      w.more.0 c.args.left w.more.1 dead c.args.self.now c.args.page h.content
+      (subst (λ n. P n ≡ h.content) w.number x.0) w.more.2
+      (subst (IsAt P dead c.args.self.now) c.requires.stage at)
+      (subst (λ (d : Page). IsEntryLeaf d.body) c.page.ensures.value
+      (subst (IsBelow c.page.result.now.body) c.in-Leaf.is c.way_on-next.ensures)))
+      (λ t up R stands legal P shown.
+      (w.seen t up R stands legal P shown, w.told t up R stands legal P shown)) tt;
+  lower = down_lower c.args.self.now c.args.page c.args.left (stage.Leaf c.args.page) c.requires.stage
+      c.requires.held.1.lower refl refl;
+}
 
-pub returns-in-Child-clause-swept : goal.returns-in-Child-clause-swept
-returns-in-Child-clause-swept g c = λ dead w.
-    let h = c.args.held in
-    gone_on g.D.Disk w.frames c.args.frames.now w.pass
-    c.args.pass.now w.right w.is_pass w.none w.reads dead c.args.self.now
-    w.sweeping c.release.new.frames c.release.new.pass h w.holding c.release.ensures.reads
-    (sym (c.release.ensures.holding [] w.holding).all) _ tt
-    (fine_then g.D.Disk w.frames c.args.frames.now c.release.new.frames w.fine
-    (calm_fine g.D.Disk c.args.frames.now c.release.new.frames c.release.ensures.calm))
-    (λ S P. (P h.page ≡ h.content) × StateTells S c.args.frames.now.journal.state)
-    (λ S P some legal shown at x.
-    at_child S P some legal shown leaves_hold c.ways_lead.ensures c.args.frames.now.journal.state x.1
-    w.more.0 c.args.left w.more.1 dead c.args.self.now c.args.page h.content
-    (subst (λ n. P n ≡ h.content) w.number x.0) w.more.2
-    (subst (IsAt P dead c.args.self.now) c.requires.stage at) c.in-Child.page
-    (subst (λ (d : Page). first_child_in d.body ≡ Some c.in-Child.page) c.page.ensures.value
-    (subst (IsBelow c.page.result.now.body) c.in-Child.is c.way_on-next.ensures)))
-    (λ t up R stands legal P shown.
-    (w.seen t up R stands legal P shown, w.told t up R stands legal P shown)) tt
+pub returns-in-Child : goal.returns-in-Child
+returns-in-Child g c = record {
+  swept = λ dead w.
+      let h = c.args.held in
+      gone_on g.D.Disk w.frames c.args.frames.now w.pass
+      c.args.pass.now w.right w.is_pass w.none w.reads dead c.args.self.now
+      w.sweeping c.release.new.frames c.release.new.pass h w.holding c.release.ensures.reads
+      (sym (c.release.ensures.holding [] w.holding).all) _ tt
+      (fine_then g.D.Disk w.frames c.args.frames.now c.release.new.frames w.fine
+      (calm_fine g.D.Disk c.args.frames.now c.release.new.frames c.release.ensures.calm))
+      (λ S P. (P h.page ≡ h.content) × StateTells S c.args.frames.now.journal.state)
+      (λ S P some legal shown at x.
+      at_child S P some legal shown leaves_hold ways_hold c.args.frames.now.journal.state x.1
+      w.more.0 c.args.left w.more.1 dead c.args.self.now c.args.page h.content
+      (subst (λ n. P n ≡ h.content) w.number x.0) w.more.2
+      (subst (IsAt P dead c.args.self.now) c.requires.stage at) c.in-Child.page
+      (subst (λ (d : Page). first_child_in d.body ≡ Some c.in-Child.page) c.page.ensures.value
+      (subst (IsBelow c.page.result.now.body) c.in-Child.is c.way_on-next.ensures)))
+      (λ t up R stands legal P shown.
+      (w.seen t up R stands legal P shown, w.told t up R stands legal P shown)) tt;
+  lower = down_lower c.args.self.now c.args.page c.args.left (stage.Down c.in-Child.page) c.requires.stage
+      c.requires.held.1.lower refl refl;
+}
 
-pub returns-in-Bad-clause-swept : goal.returns-in-Bad-clause-swept
-returns-in-Bad-clause-swept g c = λ dead w.
-    let b = c.release.ensures in
-    misplaced g.D.Disk c.ways_lead.ensures c.args.frames.now c.args.pass.now dead c.args.self.now c.args.page
-    c.args.self.now.left c.args.held c.args.left w (stage.Down c.args.page) c.requires.stage refl c.release.new.frames
-    c.release.new.pass b.reads (sym (b.holding [] w.holding).all) b.calm
-    (subst IsPage c.page.ensures.value c.page.ensures.is_page)
-    (subst (λ (d : Page). IsEntryBody d.body → ⊥) c.page.ensures.value
-    (entry_bad c.page.result.now c.page.ensures.is_page
-    (subst (IsBelow c.page.result.now.body) c.in-Bad.is c.way_on-next.ensures)))
-
-pub returns-in-Leaf-clause-lower : goal.returns-in-Leaf-clause-lower
-returns-in-Leaf-clause-lower g c =
-    down_lower c.args.self.now c.args.page c.args.left (stage.Leaf c.args.page) c.requires.stage
-    c.requires.held.1.lower refl refl
-
-pub returns-in-Child-clause-lower : goal.returns-in-Child-clause-lower
-returns-in-Child-clause-lower g c =
-    down_lower c.args.self.now c.args.page c.args.left (stage.Down c.in-Child.page) c.requires.stage
-    c.requires.held.1.lower refl refl
+pub returns-in-Bad : goal.returns-in-Bad
+returns-in-Bad g c = record {
+  swept = λ dead w.
+      let b = c.release.ensures in
+      misplaced g.D.Disk ways_hold c.args.frames.now c.args.pass.now dead c.args.self.now c.args.page
+      c.args.self.now.left c.args.held c.args.left w (stage.Down c.args.page) c.requires.stage refl c.release.new.frames
+      c.release.new.pass b.reads (sym (b.holding [] w.holding).all) b.calm
+      (subst IsPage c.page.ensures.value c.page.ensures.is_page)
+      (subst (λ (d : Page). IsEntryBody d.body → ⊥) c.page.ensures.value
+      (entry_bad c.page.result.now c.page.ensures.is_page
+      (subst (IsBelow c.page.result.now.body) c.in-Bad.is c.way_on-next.ensures)));
+  lower = tt;
+}
