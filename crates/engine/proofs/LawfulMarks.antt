@@ -132,7 +132,8 @@ module _ {D : Type 0} (device : Disk D) (old : DbValue D) (pass : Pass) (t : Tra
 
   -- nor is the step that was to mark it
   pub mark_tells_made : (c : Page) → IsPage c → Lies old name.page c → (s : StateValue) → s ≡ state_of old
-      → (b m : DbValue D) (made : Result Step DbError) → IfErr made (CannotMakeMark b s t.snapshot t.xid name c) → (e : DbError)
+      → (b m : DbValue D) (made : Result Step DbError) → IfErr made (CannotMakeMark b s t.snapshot t.xid name c)
+      → (e : DbError)
       → CannotLogMade m made e → TellsOfMark device old t.snapshot name e
   mark_tells_made c page lies s same b m made why e (inl is) = refusal_tells c page lies s same b e
       (subst (λ (r : Result Step DbError). IfErr r (CannotMakeMark b s t.snapshot t.xid name c)) is why)

@@ -110,7 +110,8 @@ module _ {D : Type 0} (device : Disk D) where
 
   module _ (a m : DbValue D) (goes : Goes device a m []) (same : fault_of m ≡ fault_of a) (x : ℕ) (name : Name)
       (made : Result Step DbError) where
-    link_logged : (r : Record) (e : DbError) → IsLinkOf x (doc_of name) r → CannotLog m r e → CannotLink device a x name e
+    link_logged : (r : Record) (e : DbError) → IsLinkOf x (doc_of name) r → CannotLog m r e
+        → CannotLink device a x name e
     link_logged r (Down f) is c = sym same ∙ c
     link_logged r LogFull is c = (m, goes, (r, is, c))
     link_logged r DiskFault is c = tt

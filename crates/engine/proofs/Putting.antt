@@ -314,7 +314,8 @@ module _ {D : Type 0} (device : Disk D) where
     bad_part z p (inl own) = own_bad z p own.0 own.1
     bad_part z p (inr new) = IsBadPage.new new.0 new.1 new.2
 
-    pub part_cause : (e : DbError) → done < parts_for (length bytes) → CannotPutNew device (IsPartOf t.xid (doc_of name)) mid name e
+    pub part_cause : (e : DbError) → done < parts_for (length bytes)
+        → CannotPutNew device (IsPartOf t.xid (doc_of name)) mid name e
         → CannotPut device old t.xid bytes e
     part_cause (store.Down f) lt why = sym (s.met).down ∙ why
     part_cause store.StoreFull lt why =

@@ -109,12 +109,14 @@ log_two-requires g c =
     record {
       is_pass = w.is_pass;
       holding = held;
-      calm = memory_calm c.in-Some-transpose.made (told_memory made.result _ c.in-Some-transpose.ensures made.ensures.memory);
+      calm = memory_calm c.in-Some-transpose.made
+          (told_memory made.result _ c.in-Some-transpose.ensures made.ensures.memory);
       may = λ step is. row_may_log g.D.Disk c.hold_list.new.self c.hold_list.new.pass e.meta c.in-Some.last e.first
           e.pages x c.args.name n.0 _ n.1 step ((w.keeps).xid ∙ run.xid) held n.2 ends.at
           (subst (NamesEnd e.meta.content e.first e.pages) c.in-Some.is ends.names) c.requires.place
           (named_low e.meta.content e.first c.in-Some.last.page e.pages ends.is_page named.0).1
-          (made_row x c.args.name c.in-Some.last _ made.result c.in-Some-transpose.made step c.in-Some-transpose.ensures is
+          (made_row x c.args.name c.in-Some.last _ made.result c.in-Some-transpose.made step
+          c.in-Some-transpose.ensures is
           made.ensures.step) w.is_pass ((w.carries).rows x _ n.0 [] 0 n.1 run.xid n.3) serial;
     }
 
@@ -154,7 +156,8 @@ returns-in_err-log_two-clause-cause g c =
     c.args.work.xid c.args.name c.in-Some-transpose.made
     (told_memory made.result _ c.in-Some-transpose.ensures made.ensures.memory)
     (λ step is. row_record (after_owed m.frames.journal.owes m.frames.journal.state) c.args.work.xid c.args.name
-    c.in-Some.last _ step (made_row c.args.work.xid c.args.name c.in-Some.last _ made.result c.in-Some-transpose.made step
+    c.in-Some.last _ step (made_row c.args.work.xid c.args.name c.in-Some.last _
+    made.result c.in-Some-transpose.made step
     c.in-Some-transpose.ensures is made.ensures.step))
     _ c.in_err-log_two.ensures.cause))
 
@@ -180,7 +183,8 @@ returns-clause-running g c =
     (runs_after g.D.Disk c.hold_list.new.self c.log_two.new.self c.hold_list.new.pass c.log_two.new.pass
     (c.in-Some.last ∷ c.in_ok-meta.field-0.meta ∷ []) y.step y.logs w.is_pass l.pass x ((w.keeps).xid ∙ run.xid)
     (subst (λ (q : Step). ChangesDocument q.kind) (sym
-    (made_row x c.args.name c.in-Some.last _ made.result c.in-Some-transpose.made y.step c.in-Some-transpose.ensures y.made_is
+    (made_row x c.args.name c.in-Some.last _ made.result c.in-Some-transpose.made y.step c.in-Some-transpose.ensures
+    y.made_is
     made.ensures.step).step_is) tt) ((w.carries).runs x run.xid run.runs))
 
 pub returns-clause-goes : goal.returns-clause-goes

@@ -138,7 +138,8 @@ log_link-requires g c =
       may = λ step is. link_may_log g.D.Disk c.hold_list.new.self c.hold_list.new.pass c.in_ok-heap.heap c.in-Ok.end x
           c.args.name n.0 n.1 c.args.last c.args.pages n.2 step ((l.keeps).xid ∙ first) held c.in-Ok.ensures.is_end
           n.3 n.4 c.in_ok-heap.ensures.number
-          (of_given (λ (s : Step). IsLinkStep x c.args.name c.in_ok-heap.heap.content c.in-Ok.end c.args.last c.args.pages
+          (of_given (λ (s : Step). IsLinkStep x c.args.name c.in_ok-heap.heap.content
+          c.in-Ok.end c.args.last c.args.pages
           s) made.result step is made.ensures.step) l.is_pass
           ((l.carries).rows x _ n.0 n.1 c.args.last n.2 first
           ((h.carries).rows x _ n.0 n.1 c.args.last n.2 run.xid n.5))

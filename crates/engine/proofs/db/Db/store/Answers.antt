@@ -82,6 +82,7 @@ returns-clause-lawful g c =
 
 pub returns-clause-snapshot : goal.returns-clause-snapshot
 returns-clause-snapshot g c =
-    snapshot_on c.args.self.now c.begin.new.self c.finish.new.self c.args.pass.now c.begin.new.pass c.place-placed.new.pass
+    snapshot_on c.args.self.now c.begin.new.self c.finish.new.self c.args.pass.now c.begin.new.pass
+    c.place-placed.new.pass
     c.finish.new.pass c.begin.ensures.takes c.place-placed.ensures.keeps c.finish.ensures.keeps
     c.finish.ensures.session.is_pass

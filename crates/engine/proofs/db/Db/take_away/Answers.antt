@@ -7,7 +7,8 @@ use Rattle.engine.specs.Answers.{HasDeleted, IsLawfulRefusal}
 use Rattle.engine.specs.declared.error.DbError.{DbError}
 use Rattle.engine.specs.declared.transaction.Transaction.{Transaction}
 use Rattle.engine.proofs.LawfulWork.{begin_tells, end_tells}
-use Rattle.engine.proofs.Storing.{has_begun, not_begun, answers, deleted, path, removed_some, stopped_none, up_after, snapshot_on}
+use Rattle.engine.proofs.Storing.{has_begun, not_begun, answers, deleted}
+use Rattle.engine.proofs.Storing.{path, removed_some, stopped_none, up_after, snapshot_on}
 use Rattle.engine.proofs.db.Db.take_away.Goals as goal
 
 pub returns-in_err-work-clause-answered : goal.returns-in_err-work-clause-answered
@@ -89,6 +90,7 @@ returns-clause-lawful g c =
 
 pub returns-clause-snapshot : goal.returns-clause-snapshot
 returns-clause-snapshot g c =
-    snapshot_on c.args.self.now c.begin.new.self c.finish.new.self c.args.pass.now c.begin.new.pass c.remove-removed.new.pass
+    snapshot_on c.args.self.now c.begin.new.self c.finish.new.self c.args.pass.now c.begin.new.pass
+    c.remove-removed.new.pass
     c.finish.new.pass c.begin.ensures.takes c.remove-removed.ensures.keeps c.finish.ensures.keeps
     c.finish.ensures.session.is_pass
